@@ -1,0 +1,5 @@
+pub mod Words
+pub mod Grammar
+pub mod Written
+pub mod Reading
+pub mod Scan

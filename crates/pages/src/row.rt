@@ -1,0 +1,27 @@
+// A row holds one node of a page; rows stand parent first, children in order.
+use crate::kind::Kind;
+use crate::kind::KindPartialEq;
+
+// What a node may be marked with: optional (`o`), computed (`c`), shorthand (`s`).
+#[derive(Clone, Copy, PartialEq, Eq)]
+pub struct Flags {
+    pub optional: bool,
+    pub computed: bool,
+    pub shorthand: bool,
+}
+
+// A part of the page's text bytes.
+#[derive(Clone, Copy, PartialEq, Eq)]
+pub struct Part {
+    pub offset: usize,
+    pub length: usize,
+}
+
+#[derive(Clone, Copy, PartialEq, Eq)]
+pub struct Row {
+    pub kind: Kind,
+    pub flags: Flags,
+    pub start: u32,
+    pub text: Option<Part>,
+    pub children: usize,
+}
