@@ -4,3 +4,11 @@ pub mod Lowest
 pub mod Forms
 pub mod Shown
 pub mod Faults
+pub mod Rests
+pub mod Back
+pub mod Runs
+pub mod Ended
+pub mod Sound
+pub mod Finishes
+pub mod Breaks
+pub mod Outcomes

@@ -12,6 +12,7 @@ use Rattle.std.proofs.shelf.Tests.{le-leb, cond-true, false≢true}
 use Rattle.std.proofs.shelf.Lists.{append-assoc}
 use Rattle.pages.specs.declared.row.Row.{Row}
 use Rattle.pages.specs.Trees.{Text, without, bytes, astray, Tree, Node, nodes, nodes-all, text-in, shown}
+use Rattle.pages.proofs.OneTree.{nodes-one-tree}
 use Rattle.grammar.specs.Grammar.{Text-part, textless, quoted, part-text, Form, form, Children, close, child, tree-of, forest-of, Listing}
 use Rattle.grammar.specs.Reading.{text-of, texts, part-at, laid, zero-row}
 use Rattle.grammar.specs.Scan.{Scan, Memory, ended}
@@ -91,9 +92,9 @@ puts-shown {t = t} y rows text h k =
 same-ends : (a c : Scan) (m w : Memory) → ended a m ≡ ended c w → (a ≡ c) × (m ≡ w)
 same-ends a c m w e = (cc, cc)
 
--- a listing has one tree, where its nodes determine a tree
-pub listing-one-tree : ((t u : Tree) → nodes t ≡ nodes u → t ≡ u) → (s : List ℕ) (t u : Tree) → Listing s t → Listing s u → t ≡ u
-listing-one-tree one s t u x y =
+-- a listing has one tree
+pub listing-one-tree : (s : List ℕ) (t u : Tree) → Listing s t → Listing s u → t ≡ u
+listing-one-tree s t u x y =
     let rows : List Row = replicate (length (nodes t) + length (nodes u)) zero-row in
     let text : List ℕ = replicate (length (texts (nodes t)) + length (texts (nodes u))) 0 in
     let m : Memory = record { rows = rows; text = text } in
@@ -104,7 +105,7 @@ listing-one-tree one s t u x y =
     let r : puts 0 (texts (nodes t)) text ≡ puts 0 (texts (nodes u)) text = ap (λ (w : Memory). w .text) (ends .1) in
     let k = length-replicate (length (nodes t) + length (nodes u)) zero-row in
     let l = length-replicate {A = ℕ} (length (texts (nodes t)) + length (texts (nodes u))) 0 in
-    one t u
+    nodes-one-tree t u
     (sym (puts-shown x rows text (omega arith) (omega arith))
     ∙ (λ i. shown (r i) (take (p i) (q i)))
     ∙ puts-shown y rows text (omega arith) (omega arith))

@@ -25,3 +25,7 @@ pub struct Row {
     pub text: Option<Part>,
     pub children: usize,
 }
+
+// The most nodes that a tree has, and the most bytes that its text has.
+pub const NODE_LIMIT: usize = 65_536;
+pub const TEXT_LIMIT: usize = 1_048_576;

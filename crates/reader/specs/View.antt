@@ -4,7 +4,8 @@ use Prim.Native.Nat.{ℕ, zero, suc}
 use lib.ListN.{take, getD}
 use Rattle.grammar.specs.Reading.{zero-row}
 use Rattle.grammar.specs.Scan as scan
-use Rattle.grammar.specs.Scan.{Phase, Scan, Step}
+use Rattle.grammar.specs.Scan.{Phase, Scan, Step, Memory}
+use Rattle.pages.specs.declared.row.Row.{Row}
 use Rattle.reader.specs.declared.open.Word.{Word}
 use Rattle.reader.specs.declared.open.State.{State}
 use Rattle.reader.specs.declared.open.State.the-variants as state
@@ -57,3 +58,6 @@ effect-of effect.Unread = scan.unread
 -- the step that led to this reader and had this effect
 abbrev pub stepped : Reader → Effect → Step
 stepped r e = record { to = view r; effect = effect-of e }
+
+abbrev pub memory-of : List Row → List ℕ → Memory
+memory-of rows text = record { rows = rows; text = text }
