@@ -172,6 +172,20 @@ module _ (s : List ℕ) (rows : List Row) (text : List ℕ) (rows′ : List Row)
   pub reads-made : (z : Size) → Finds s rows text (Ok z) rows′ text′ → Reads s rows text (Ok z) rows′ text′
   reads-made z f = made z (f .comes) (f .answered) (f .filled)
 
+  same-size : (y z : Size) → _≡_ {A = Result Size Refusal} (Ok y) (Ok z) → y ≡ z
+  same-size y z e = cc
+
+  sized : (z : Size) {o : Outcome} → Comes-to s (length rows) (length text) o → Ok z ≡ answer-to o → (z .nodes ≤ length rows) × (z .bytes ≤ length text)
+  sized z (is-unread i x) e = absurd (ok-not-err z (Unread i) e)
+  sized z (is-misread t n l j) e = absurd (ok-not-err z (Misshapen n) e)
+  sized z (is-overfull t l j q) e = absurd (ok-not-err z Overfull e)
+  sized z (is-read t l j q) e =
+      subst (λ (y : Size). (y .nodes ≤ length rows) × (y .bytes ≤ length text)) (sym (same-size z _ e)) (q .rows-handed, q .bytes-handed)
+
+  -- a read page lies within the memory
+  pub size-within : (z : Size) → Finds s rows text (Ok z) rows′ text′ → (z .nodes ≤ length rows) × (z .bytes ≤ length text)
+  size-within z f = sized z (f .comes) (f .answered)
+
   refused : (x : Refusal) {o : Outcome} → Comes-to s (length rows) (length text) o → Err x ≡ answer-to o
     → rows′ ≡ replicate (length rows) zero-row → text′ ≡ replicate (length text) 0 → Reads s rows text (Err x) rows′ text′
   refused x (is-read t l j q) e r c = absurd (ok-not-err _ x (sym e))

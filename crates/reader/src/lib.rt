@@ -1,9 +1,11 @@
 // Reads a page listing: one pass over any bytes, into rows and text that the caller lends.
 ghost use mathlib.Core.Bool.{true, false, _&&_};
 ghost use mathlib.Core.Path.{_≡_};
+ghost use Prim.Native.Nat.{_≤_};
 ghost use lib.Dec.{leb};
 ghost use lib.ListN.{length};
 ghost use Rattle.grammar.specs.Scan.{after};
+ghost use Rattle.std.specs.Vec.{made};
 ghost use Rattle.reader.specs.Reads.{Reads, Finds};
 ghost use Rattle.reader.specs.View.{view};
 use entries::ZERO;
@@ -75,7 +77,8 @@ fn fill<'a>(listing: &'a [u8], rows: &mut [Row], text: &mut [u8]) -> Result<Size
 
 // Reads a listing into the first rows and bytes of the memory. A refusal leaves all of it zero.
 pub fn read<'a>(listing: &'a [u8], rows: &mut [Row], text: &mut [u8]) -> Result<Size, Refusal<'a>>
-    ensures { λ r. ⌜ Reads (now (listing .entry)) (now (rows .entry)) (now (text .entry)) r (now (rows .exit)) (now (text .exit)) ⌝ }
+    ensures reads { λ r. ⌜ Reads (now (listing .entry)) (now (rows .entry)) (now (text .entry)) r (now (rows .exit)) (now (text .exit)) ⌝ }
+    ensures within { λ r. ⌜ made r (λ size. (size .nodes ≤ length (now (rows .entry))) × (size .bytes ≤ length (now (text .entry)))) ⌝ }
 {
     match fill(listing, rows, text) {
         Ok(size) => Ok(size),

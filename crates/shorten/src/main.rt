@@ -5,6 +5,7 @@ use pages::NODE_LIMIT;
 use pages::Refusal;
 use pages::Row;
 use pages::TEXT_LIMIT;
+use reader::Size;
 use reader::read;
 use std::alloc::Global;
 use std::env;
@@ -42,7 +43,7 @@ enum Task {
     Page,
 }
 
-fn task(rt: &LibcRuntime) -> Result<Task, AnyError> {
+fn asked(rt: &LibcRuntime) -> Result<Task, AnyError> {
     let mut task = Task::Page;
     for argument in env::args(rt)?.skip(1) {
         match argument.as_str() {
@@ -65,7 +66,7 @@ fn refused(rt: &LibcRuntime, refusal: Refusal) -> Result<(), AnyError> {
 }
 
 // Prints a page that was read.
-fn print_page(rt: &LibcRuntime, heap: Global, rows: &[Row], text: &[u8]) -> Result<(), AnyError> {
+fn print_page<'p>(rt: &LibcRuntime, heap: Global, rows: &'p [Row], text: &'p [u8]) -> Result<(), AnyError> {
     let len = match written_len(rows, text) {
         Ok(len) => len,
         Err(refusal) => return refused(rt, refusal),
@@ -87,16 +88,12 @@ fn page(rt: &LibcRuntime) -> Result<(), AnyError> {
     let mut text = vec![in heap; 0u8; TEXT_LIMIT]?;
     match read(listing.as_slice(), rows.as_mut_slice(), text.as_mut_slice()) {
         Err(refusal) => refused(rt, refusal),
-        Ok(size) => {
-            let rows = &rows.as_slice()[0..size.nodes];
-            let text = &text.as_slice()[0..size.bytes];
-            print_page(rt, heap, rows, text)
-        }
+        Ok(Size { nodes, bytes }) => print_page(rt, heap, &rows.as_slice()[0..nodes], &text.as_slice()[0..bytes]),
     }
 }
 
 fn main(rt: LibcRuntime) -> Result<(), AnyError> {
-    match task(&rt)? {
+    match asked(&rt)? {
         Task::Help => rt.print(HELP)?,
         Task::Page => page(&rt)?,
     }
