@@ -30,8 +30,9 @@ one-before s p q x y h =
 breaks-once : (s : List ℕ) (p q : ℕ) → Breaks-off s p → Breaks-off s q → p ≡ q
 breaks-once s p q x y =
     elim (cases-order p q) [
-      inl e ↦ e
-    | inr o ↦ elim o [ inl h ↦ absurd (one-before s p q x y h) | inr h ↦ absurd (one-before s q p y x h) ] ]
+      | inl e ↦ e
+      | inr o ↦ elim o [ inl h ↦ absurd (one-before s p q x y h) | inr h ↦ absurd (one-before s q p y x h) ]
+    ]
 
 same-place : (n m : ℕ) → misshapen n ≡ misshapen m → n ≡ m
 same-place n m e = cc

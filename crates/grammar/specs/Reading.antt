@@ -61,7 +61,10 @@ zero-row =
     record {
       kind = Node-kind;
       flags = record { optional = false; computed = false; shorthand = false };
-      start = 0; text = None; children = 0 }
+      start = 0;
+      text = None;
+      children = 0;
+    }
 
 -- What a reading comes to. Anything but a read page leaves every handed row and byte zero.
 pub data Outcome : Type 0 where

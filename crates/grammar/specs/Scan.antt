@@ -20,20 +20,20 @@ use Rattle.grammar.specs.Reading.{zero-row}
 
 -- what the reader waits for
 pub data Phase : Type 0 where
-  before : Phase             -- the root's bracket
-  opened : Phase             -- a kind's first letter
-  in-word : List ℕ → Phase   -- more of a kind's name, after these letters
-  named : Phase              -- the `@`
-  starting : Phase           -- a start's first digit
-  in-start : Phase           -- more digits
-  started : Phase            -- flags, a text, children or the end
-  in-flags : Phase           -- more flags
-  flags-done : Phase         -- a text, children or the end
-  in-text : Phase            -- more of a text
-  escape : Phase             -- what a backslash stands before
-  in-hex : ℕ → Phase         -- the second digit, after this first one
-  inside : Phase             -- children or the end
-  after : Phase              -- nothing more
+  before : Phase  -- the root's bracket
+  opened : Phase  -- a kind's first letter
+  in-word : List ℕ → Phase  -- more of a kind's name, after these letters
+  named : Phase  -- the `@`
+  starting : Phase  -- a start's first digit
+  in-start : Phase  -- more digits
+  started : Phase  -- flags, a text, children or the end
+  in-flags : Phase  -- more flags
+  flags-done : Phase  -- a text, children or the end
+  in-text : Phase  -- more of a text
+  escape : Phase  -- what a backslash stands before
+  in-hex : ℕ → Phase  -- the second digit, after this first one
+  inside : Phase  -- children or the end
+  after : Phase  -- nothing more
 
 -- an open bracket: its row so far, and its node's number
 pub record Open : Type 0 where
@@ -146,8 +146,12 @@ open-bracket a =
       to = record {
         phase = opened;
         stack = record { row = zero-row; number = a .nodes } ∷ innermost with-child (a .stack);
-        nodes = a .nodes + 1; bytes = a .bytes; fault = a .fault };
-      effect = quiet })
+        nodes = a .nodes + 1;
+        bytes = a .bytes;
+        fault = a .fault;
+      };
+      effect = quiet;
+    })
     (stuck a)
 
 -- where the node of the innermost bracket stands
@@ -176,7 +180,8 @@ close-bracket [] a = stuck a
 close-bracket (e ∷ s) a =
     record {
       to = record { phase = phase-in s; stack = s; nodes = a .nodes; bytes = a .bytes; fault = fault-after e s a };
-      effect = row-done (e .number) (e .row) }
+      effect = row-done (e .number) (e .row);
+    }
 
 -- one letter more of a kind's name
 abbrev pub on-letter : List ℕ → Scan → ℕ → Step
@@ -240,7 +245,8 @@ abbrev pub on-byte : Scan → ℕ → Step
 on-byte a b =
     record {
       to = record { phase = in-text; stack = innermost with-byte (a .stack); nodes = a .nodes; bytes = a .bytes + 1; fault = a .fault };
-      effect = text-byte (a .bytes) b }
+      effect = text-byte (a .bytes) b;
+    }
 
 abbrev pub in-phase : Phase → Scan → ℕ → Step
 in-phase before a b = cond (is-blank b) (on-to before a) (cond (eqb b 40) (open-bracket a) (stuck a))

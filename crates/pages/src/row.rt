@@ -28,4 +28,5 @@ pub struct Row {
 
 // The most nodes that a tree has, and the most bytes that its text has.
 pub const NODE_LIMIT: usize = 65_536;
+
 pub const TEXT_LIMIT: usize = 1_048_576;

@@ -82,9 +82,11 @@ module _ (n : ℕ) (a : Scan) (w : Within n a) where
   opens =
       either (ltb (length (a .stack)) 64) _ (stuck a)
       (λ _. record {
-        nodes = omega (arith, w .nodes); bytes = omega (arith, w .bytes);
+        nodes = omega (arith, w .nodes);
+        bytes = omega (arith, w .bytes);
         entries = (record { children = omega arith; length = omega arith }, innermost-small n with-child (λ e h. record { children = omega (arith, h .children); length = omega (arith, h .length) }) (a .stack) (w .entries));
-        digit = tt })
+        digit = tt;
+      })
       (λ _. stays)
 
   closes : (s : List Open) → All-small n s → Leads n (close-bracket s a)
@@ -117,8 +119,8 @@ module _ (n : ℕ) (a : Scan) (w : Within n a) where
       either (eqb b 111) _ _
       (λ _. either _ (stuck a) _ (λ _. stays) (λ _. marks _))
       (λ _. either (eqb b 99) _ _
-        (λ _. either _ (stuck a) _ (λ _. stays) (λ _. marks _))
-        (λ _. either (f .shorthand) (stuck a) _ (λ _. stays) (λ _. marks _)))
+      (λ _. either _ (stuck a) _ (λ _. stays) (λ _. marks _))
+      (λ _. either (f .shorthand) (stuck a) _ (λ _. stays) (λ _. marks _)))
 
   betweens : (p : Phase) → Digit p → (b : ℕ) → Leads n (between p a b)
   betweens p d b =
@@ -135,9 +137,11 @@ module _ (n : ℕ) (a : Scan) (w : Within n a) where
   reads : (b : ℕ) → Leads n (on-byte a b)
   reads b =
       record {
-        nodes = omega (arith, w .nodes); bytes = omega (arith, w .bytes);
+        nodes = omega (arith, w .nodes);
+        bytes = omega (arith, w .bytes);
         entries = innermost-small n with-byte (λ e h. record { children = omega (arith, h .children); length = grown-length (e .row .text) (h .length) }) (a .stack) (w .entries);
-        digit = tt }
+        digit = tt;
+      }
 
 hex-small : (b : ℕ) → is-hex b ≡ true → hex-value b < 16
 hex-small b e =

@@ -64,14 +64,15 @@ listed s m a m′ e p =
 
 module _ (s : List ℕ) (rows : List Row) (text : List ℕ) where
   pub found-broke : (place : ℕ) (rows′ : List Row) (text′ : List ℕ) → place < length s
-    → run s at-start (memory-of rows text) ≡ broke (length s - place) → Finds s rows text (Err (Unread place)) rows′ text′
+      → run s at-start (memory-of rows text) ≡ broke (length s - place) → Finds s rows text (Err (Unread place)) rows′ text′
   found-broke place rows′ text′ h e =
       let p : length s - (length s - place) ≡ place = omega arith in
       record {
         outcome = unread place;
         comes = is-unread place (subst (Breaks-off s) p (broke-breaks-off s (memory-of rows text) (length s - place) e));
         answered = refl;
-        filled = λ t q. absurd (subst Is-read (sym q) tt) }
+        filled = λ t q. absurd (subst Is-read (sym q) tt);
+      }
 
   module _ (a : Scan) (rows′ : List Row) (text′ : List ℕ) (e : run s at-start (memory-of rows text) ≡ ended a (memory-of rows′ text′)) where
     pub found-short : (a .phase ≡ after → ⊥) → Finds s rows text (Err (Unread (length s))) rows′ text′
@@ -80,7 +81,8 @@ module _ (s : List ℕ) (rows : List Row) (text : List ℕ) where
           outcome = unread (length s);
           comes = is-unread (length s) (short-breaks-off s (memory-of rows text) a (memory-of rows′ text′) e h);
           answered = refl;
-          filled = λ t q. absurd (subst Is-read (sym q) tt) }
+          filled = λ t q. absurd (subst Is-read (sym q) tt);
+        }
 
     module _ (p : a .phase ≡ after) where
       pub found-fault : (n : ℕ) → a .fault ≡ Some n → Finds s rows text (Err (Misshapen n)) rows′ text′
@@ -90,28 +92,30 @@ module _ (s : List ℕ) (rows : List Row) (text : List ℕ) where
             outcome = misread n;
             comes = is-misread (l .tree) n (l .listing) (first-fault (l .listing) n (ap (λ (x : Scan). x .fault) (sym (l .scan-is)) ∙ f));
             answered = refl;
-            filled = λ t q. absurd (subst Is-read (sym q) tt) }
+            filled = λ t q. absurd (subst Is-read (sym q) tt);
+          }
 
       module _ (f : a .fault ≡ None) where
         pub found-overfull : (leb (a .nodes) (length rows) && (leb (a .nodes) 65536 && (leb (a .bytes) (length text) && leb (a .bytes) 1048576))) ≡ false
-          → Finds s rows text (Err Overfull) rows′ text′
+            → Finds s rows text (Err Overfull) rows′ text′
         found-overfull h =
             let l = listed s (memory-of rows text) a (memory-of rows′ text′) e p in
             let n : a .nodes ≡ length (nodes (l .tree)) = ap (λ (x : Scan). x .nodes) (l .scan-is) in
             let b : a .bytes ≡ length (texts (nodes (l .tree))) = ap (λ (x : Scan). x .bytes) (l .scan-is) in
             let no-room : Fits (l .tree) (length rows) (length text) → ⊥ =
-              λ r. both-ways _ h
-                (and-from _ _ (le-leb (a .nodes) (length rows) (omega (arith, r .rows-handed)))
-                (and-from _ _ (le-leb (a .nodes) 65536 (omega (arith, r .rows-limit)))
-                (and-from _ _ (le-leb (a .bytes) (length text) (omega (arith, r .bytes-handed))) (le-leb (a .bytes) 1048576 (omega (arith, r .bytes-limit)))))) in
+            λ r. both-ways _ h
+            (and-from _ _ (le-leb (a .nodes) (length rows) (omega (arith, r .rows-handed)))
+            (and-from _ _ (le-leb (a .nodes) 65536 (omega (arith, r .rows-limit)))
+            (and-from _ _ (le-leb (a .bytes) (length text) (omega (arith, r .bytes-handed))) (le-leb (a .bytes) 1048576 (omega (arith, r .bytes-limit)))))) in
             record {
               outcome = overfull;
               comes = is-overfull (l .tree) (l .listing) (no-fault (l .listing) (ap (λ (x : Scan). x .fault) (sym (l .scan-is)) ∙ f)) no-room;
               answered = refl;
-              filled = λ t q. absurd (subst Is-read (sym q) tt) }
+              filled = λ t q. absurd (subst Is-read (sym q) tt);
+            }
 
         pub found-room : (leb (a .nodes) (length rows) && (leb (a .nodes) 65536 && (leb (a .bytes) (length text) && leb (a .bytes) 1048576))) ≡ true
-          → Finds s rows text (Ok (record { nodes = a .nodes; bytes = a .bytes })) rows′ text′
+            → Finds s rows text (Ok (record { nodes = a .nodes; bytes = a .bytes })) rows′ text′
         found-room h =
             let l = listed s (memory-of rows text) a (memory-of rows′ text′) e p in
             let n : a .nodes ≡ length (nodes (l .tree)) = ap (λ (x : Scan). x .nodes) (l .scan-is) in
@@ -120,26 +124,28 @@ module _ (s : List ℕ) (rows : List Row) (text : List ℕ) where
             let second = and-parts (leb (a .nodes) 65536) _ (first .1) in
             let third = and-parts (leb (a .bytes) (length text)) (leb (a .bytes) 1048576) (second .1) in
             let room : Fits (l .tree) (length rows) (length text) =
-              record {
-                rows-handed = omega (arith, leb-true (a .nodes) (length rows) (first .0));
-                rows-limit = omega (arith, leb-true (a .nodes) 65536 (second .0));
-                bytes-handed = omega (arith, leb-true (a .bytes) (length text) (third .0));
-                bytes-limit = omega (arith, leb-true (a .bytes) 1048576 (third .1)) } in
+            record {
+              rows-handed = omega (arith, leb-true (a .nodes) (length rows) (first .0));
+              rows-limit = omega (arith, leb-true (a .nodes) 65536 (second .0));
+              bytes-handed = omega (arith, leb-true (a .bytes) (length text) (third .0));
+              bytes-limit = omega (arith, leb-true (a .bytes) 1048576 (third .1));
+            } in
             let r : rows′ ≡ rows-after (read (l .tree)) rows =
-              ap (λ (m : Memory). m .rows) (l .memory-is)
-              ∙ (puts-all (laid 0 (nodes (l .tree))) rows (omega (arith, length-laid 0 (nodes (l .tree)), room .rows-handed))
-              ∙ ap (λ k. laid 0 (nodes (l .tree)) ++ drop k rows) (length-laid 0 (nodes (l .tree)))) in
+            ap (λ (m : Memory). m .rows) (l .memory-is)
+            ∙ (puts-all (laid 0 (nodes (l .tree))) rows (omega (arith, length-laid 0 (nodes (l .tree)), room .rows-handed))
+            ∙ ap (λ k. laid 0 (nodes (l .tree)) ++ drop k rows) (length-laid 0 (nodes (l .tree)))) in
             let t : text′ ≡ text-after (read (l .tree)) text =
-              ap (λ (m : Memory). m .text) (l .memory-is) ∙ puts-all (texts (nodes (l .tree))) text (room .bytes-handed) in
+            ap (λ (m : Memory). m .text) (l .memory-is) ∙ puts-all (texts (nodes (l .tree))) text (room .bytes-handed) in
             record {
               outcome = read (l .tree);
               comes = is-read (l .tree) (l .listing) (no-fault (l .listing) (ap (λ (x : Scan). x .fault) (sym (l .scan-is)) ∙ f)) room;
               answered = λ z. Ok (record { nodes = n z; bytes = b z });
-              filled = λ u q. subst (λ (v : Tree). (rows′ ≡ rows-after (read v) rows) × (text′ ≡ text-after (read v) text)) (same-tree (l .tree) u q) (r, t) }
+              filled = λ u q. subst (λ (v : Tree). (rows′ ≡ rows-after (read v) rows) × (text′ ≡ text-after (read v) text)) (same-tree (l .tree) u q) (r, t);
+            }
 
 -- the rows and bytes of a read page show its tree
 page-holds : (s : List ℕ) (t : Tree) → Listing s t → (rows : List Row) (text : List ℕ)
-  → shown (text-after (read t) text) (take (length (nodes t)) (rows-after (read t) rows)) ≡ nodes t
+    → shown (text-after (read t) text) (take (length (nodes t)) (rows-after (read t) rows)) ≡ nodes t
 page-holds s t l rows text =
     ap (shown (text-after (read t) text)) (take-at (laid 0 (nodes t)) (drop (length (nodes t)) rows) (length (nodes t)) (length-laid 0 (nodes t)))
     ∙ listing-shown l (drop (length (texts (nodes t))) text)
@@ -158,7 +164,7 @@ module _ (s : List ℕ) (rows : List Row) (text : List ℕ) (rows′ : List Row)
   made z (is-read t l j q) e g =
       let (r, x) = g t refl in
       let page : shown text′ (take (length (nodes t)) rows′) ≡ nodes t =
-        (λ k. shown (x k) (take (length (nodes t)) (r k))) ∙ page-holds s t l rows text in
+      (λ k. shown (x k) (take (length (nodes t)) (r k))) ∙ page-holds s t l rows text in
       record {
         outcome = read t;
         comes = is-read t l j q;
@@ -167,7 +173,8 @@ module _ (s : List ℕ) (rows : List Row) (text : List ℕ) (rows′ : List Row)
         text-are = x;
         only = λ o k. comes-once s (length rows) (length text) k (is-read t l j q);
         one-tree = listing-one-tree s;
-        holds = λ u w. subst (λ (v : Tree). shown text′ (take (length (nodes v)) rows′) ≡ nodes v) (same-tree t u w) page }
+        holds = λ u w. subst (λ (v : Tree). shown text′ (take (length (nodes v)) rows′) ≡ nodes v) (same-tree t u w) page;
+      }
 
   pub reads-made : (z : Size) → Finds s rows text (Ok z) rows′ text′ → Reads s rows text (Ok z) rows′ text′
   reads-made z f = made z (f .comes) (f .answered) (f .filled)
@@ -187,27 +194,45 @@ module _ (s : List ℕ) (rows : List Row) (text : List ℕ) (rows′ : List Row)
   size-within z f = sized z (f .comes) (f .answered)
 
   refused : (x : Refusal) {o : Outcome} → Comes-to s (length rows) (length text) o → Err x ≡ answer-to o
-    → rows′ ≡ replicate (length rows) zero-row → text′ ≡ replicate (length text) 0 → Reads s rows text (Err x) rows′ text′
+      → rows′ ≡ replicate (length rows) zero-row → text′ ≡ replicate (length text) 0 → Reads s rows text (Err x) rows′ text′
   refused x (is-read t l j q) e r c = absurd (ok-not-err _ x (sym e))
   refused x (is-unread i y) e r c =
       record {
-        outcome = unread i; comes = is-unread i y; answered = e; rows-are = r; text-are = c;
-        only = λ o k. comes-once s (length rows) (length text) k (is-unread i y); one-tree = listing-one-tree s;
-        holds = λ u w. absurd (subst Is-read (sym w) tt) }
+        outcome = unread i;
+        comes = is-unread i y;
+        answered = e;
+        rows-are = r;
+        text-are = c;
+        only = λ o k. comes-once s (length rows) (length text) k (is-unread i y);
+        one-tree = listing-one-tree s;
+        holds = λ u w. absurd (subst Is-read (sym w) tt);
+      }
   refused x (is-misread t n l j) e r c =
       record {
-        outcome = misread n; comes = is-misread t n l j; answered = e; rows-are = r; text-are = c;
-        only = λ o k. comes-once s (length rows) (length text) k (is-misread t n l j); one-tree = listing-one-tree s;
-        holds = λ u w. absurd (subst Is-read (sym w) tt) }
+        outcome = misread n;
+        comes = is-misread t n l j;
+        answered = e;
+        rows-are = r;
+        text-are = c;
+        only = λ o k. comes-once s (length rows) (length text) k (is-misread t n l j);
+        one-tree = listing-one-tree s;
+        holds = λ u w. absurd (subst Is-read (sym w) tt);
+      }
   refused x (is-overfull t l j q) e r c =
       record {
-        outcome = overfull; comes = is-overfull t l j q; answered = e; rows-are = r; text-are = c;
-        only = λ o k. comes-once s (length rows) (length text) k (is-overfull t l j q); one-tree = listing-one-tree s;
-        holds = λ u w. absurd (subst Is-read (sym w) tt) }
+        outcome = overfull;
+        comes = is-overfull t l j q;
+        answered = e;
+        rows-are = r;
+        text-are = c;
+        only = λ o k. comes-once s (length rows) (length text) k (is-overfull t l j q);
+        one-tree = listing-one-tree s;
+        holds = λ u w. absurd (subst Is-read (sym w) tt);
+      }
 
 -- a refused reading, once all its memory is cleared
 pub reads-refused : (s : List ℕ) (rows : List Row) (text : List ℕ) (x : Refusal) (rows′ rows″ : List Row) (text′ text″ : List ℕ)
-  → Finds s rows text (Err x) rows′ text′ → length rows′ ≡ length rows → length text′ ≡ length text
-  → rows″ ≡ replicate (length rows′) zero-row → text″ ≡ replicate (length text′) 0 → Reads s rows text (Err x) rows″ text″
+    → Finds s rows text (Err x) rows′ text′ → length rows′ ≡ length rows → length text′ ≡ length text
+    → rows″ ≡ replicate (length rows′) zero-row → text″ ≡ replicate (length text′) 0 → Reads s rows text (Err x) rows″ text″
 reads-refused s rows text x rows′ rows″ text′ text″ f m n r c =
     refused s rows text rows″ text″ x (f .comes) (f .answered) (r ∙ ap (λ k. replicate k zero-row) m) (c ∙ ap (λ k. replicate k 0) n)

@@ -24,13 +24,18 @@ use Rattle.reader.proofs.Stack.{unwound-length, unwound-push, unwound-pop}
 
 -- after the innermost has its new child, a new entry makes the bracket open
 pub open-after : (r r′ : Reader) → r′ .depth ≡ r .depth → view r′ ≡ restacked (innermost with-child (view r .stack)) (view r)
-  → r .depth < 64 → r′ .depth < length (r′ .stack)
-  → _≡_ {A = Step}
+    → r .depth < 64 → r′ .depth < length (r′ .stack)
+    → _≡_ {A = Step}
     (record {
       to = record {
-        phase = opened; stack = unwound (r′ .depth + 1) (set (r′ .stack) (r′ .depth) (record { row = zero-row; number = r′ .nodes }));
-        nodes = r′ .nodes + 1; bytes = r′ .bytes; fault = r′ .fault };
-      effect = quiet })
+        phase = opened;
+        stack = unwound (r′ .depth + 1) (set (r′ .stack) (r′ .depth) (record { row = zero-row; number = r′ .nodes }));
+        nodes = r′ .nodes + 1;
+        bytes = r′ .bytes;
+        fault = r′ .fault;
+      };
+      effect = quiet;
+    })
     (open-bracket (view r))
 open-after r r′ ed ev few within =
     let pushed : List scan.Open → Step = λ s. record { to = record { phase = opened; stack = s; nodes = r′ .nodes + 1; bytes = r′ .bytes; fault = r′ .fault }; effect = quiet } in
@@ -41,7 +46,7 @@ open-after r r′ ed ev few within =
 
 -- the node of the innermost bracket is the last child so far of the bracket around it
 pub place-around : (d : ℕ) (s : List Open) → 2 ≤ d
-  → place-in (unwound (d - 1) s) ≡ Child (getD s (d - 2) no-open .row .kind) (getD s (d - 2) no-open .row .flags) (getD s (d - 2) no-open .row .children - 1)
+    → place-in (unwound (d - 1) s) ≡ Child (getD s (d - 2) no-open .row .kind) (getD s (d - 2) no-open .row .flags) (getD s (d - 2) no-open .row .children - 1)
 place-around d s h =
     let e : d - 1 - 1 ≡ d - 2 = omega arith in
     ap place-in (unwound-pop (d - 1) s (omega arith)) ∙ rw e refl
@@ -70,8 +75,9 @@ some-begins-length : (ks : List Kind) (n : ℕ) (w : List ℕ) → Longest n ks 
 some-begins-length [] n w l e = absurd (both-ways true (sym e) refl)
 some-begins-length (k ∷ ks) n w l e =
     elim (or-cases (prefix w (word k)) (some-begins ks w) e) [
-      inl h ↦ (let p : length w ≤ length (word k) = prefix-length w (word k) h in let q : length (word k) ≤ n = l .0 in omega arith)
-    | inr h ↦ some-begins-length ks n w (l .1) h ]
+      | inl h ↦ (let p : length w ≤ length (word k) = prefix-length w (word k) h in let q : length (word k) ≤ n = l .0 in omega arith)
+      | inr h ↦ some-begins-length ks n w (l .1) h
+    ]
 
 pub begun-length : (w : List ℕ) → begun w ≡ true → length w ≤ 9
 unfolding begun
@@ -96,5 +102,6 @@ pub letters-within : (l : List ℕ) (n m : ℕ) → length l ≡ 9 → m ≡ min
 letters-within l n m len e =
     let z : m - 0 ≡ m = omega arith in
     rw z (elim (cases-lt 9 n) [
-      inl h ↦ (let q : length l ≤ m = omega arith in let p : length l ≤ n = omega arith in take-all m l q ∙ sym (take-all n l p))
-    | inr h ↦ (let p : m ≡ n = omega arith in rw p refl) ])
+      | inl h ↦ (let q : length l ≤ m = omega arith in let p : length l ≤ n = omega arith in take-all m l q ∙ sym (take-all n l p))
+      | inr h ↦ (let p : m ≡ n = omega arith in rw p refl)
+    ])

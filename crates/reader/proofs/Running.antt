@@ -23,7 +23,7 @@ use Rattle.reader.proofs.Bounds.{Within, Small, All-small, Digit, text-length}
 
 -- the byte at an index, where its step is known
 pub run-at : (s : List ℕ) (i : ℕ) (a : Scan) (m : Memory) → i < length s → (t : Step) → t ≡ next a (getD s i 0)
-  → run (drop i s) a m ≡ carried (t .effect) (length s - i) (run (drop (i + 1) s) (t .to) (applied (t .effect) m))
+    → run (drop i s) a m ≡ carried (t .effect) (length s - i) (run (drop (i + 1) s) (t .to) (applied (t .effect) m))
 unfolding run
 run-at s i a m h t e =
     let n : length (drop (suc i) s) + 1 ≡ length s - i = rw (length-drop (suc i) s) (omega arith) in
@@ -68,7 +68,8 @@ room-within r n w h =
       bytes = omega (arith, w .bytes);
       children = λ p. omega (arith, innermost-small n (r .depth) (r .stack) (w .entries) p .children);
       length = λ p. omega (arith, grown-fits n (getD (r .stack) (r .depth - 1) no-open .row .text) (innermost-small n (r .depth) (r .stack) (w .entries) p .length));
-      high = high-of (r .state) (w .digit) }
+      high = high-of (r .state) (w .digit);
+    }
 
 -- equal memory, equal readings
 pub run-in : (s : List ℕ) (a : Scan) (r q : List Row) (t u : List ℕ) → q ≡ r → u ≡ t → run s a (memory-of r t) ≡ run s a (memory-of q u)

@@ -40,7 +40,7 @@ unwound-pop zero s h = absurd (omega arith)
 unwound-pop (suc d) s h = let e : suc d - 1 ≡ d = omega arith in rw e refl
 
 pub changed-innermost : (f : scan.Open → scan.Open) (s : List Open) (d : ℕ) (x : Open) → 0 < d → d ≤ length s
-  → open-of x ≡ f (open-of (getD s (d - 1) no-open)) → unwound d (set s (d - 1) x) ≡ innermost f (unwound d s)
+    → open-of x ≡ f (open-of (getD s (d - 1) no-open)) → unwound d (set s (d - 1) x) ≡ innermost f (unwound d s)
 changed-innermost f s zero x h l e = absurd (omega arith)
 changed-innermost f s (suc d) x h l e =
     let p : suc d - 1 ≡ d = omega arith in

@@ -53,7 +53,10 @@ impl Reader {
     {
         Reader {
             state: State::Before,
-            stack: [Open { row: ZERO, number: 0 }; 64],
+            stack: [Open {
+                row: ZERO,
+                number: 0,
+            }; 64],
             depth: 0,
             nodes: 0,
             bytes: 0,

@@ -13,8 +13,8 @@ use pages::Row;
 // Reads every byte, or up to the place of one that is unread.
 pub(crate) fn scan(listing: &[u8], rows: &mut [Row], text: &mut [u8]) -> Result<Reader, usize>
     ensures { λ r. ⌜ Cases r
-      (λ reader. run (now (listing .entry)) at-start (memory-of (now (rows .entry)) (now (text .entry))) ≡ ended (view reader) (memory-of (now (rows .exit)) (now (text .exit))))
-      (λ place. (place < length (now (listing .entry))) × (run (now (listing .entry)) at-start (memory-of (now (rows .entry)) (now (text .entry))) ≡ broke (length (now (listing .entry)) - place))) ⌝ }
+        (λ reader. run (now (listing .entry)) at-start (memory-of (now (rows .entry)) (now (text .entry))) ≡ ended (view reader) (memory-of (now (rows .exit)) (now (text .exit))))
+        (λ place. (place < length (now (listing .entry))) × (run (now (listing .entry)) at-start (memory-of (now (rows .entry)) (now (text .entry))) ≡ broke (length (now (listing .entry)) - place))) ⌝ }
 {
     let mut reader = Reader::new();
     for (place, b) in listing.iter().enumerate() {

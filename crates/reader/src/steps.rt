@@ -98,7 +98,11 @@ impl Reader {
         let depth = self.depth - 1;
         self.depth = depth;
         self.fault = fault;
-        self.state = if depth == 0 { State::After } else { State::Inside };
+        self.state = if depth == 0 {
+            State::After
+        } else {
+            State::Inside
+        };
         Effect::Done(innermost.number, innermost.row)
     }
 
@@ -214,11 +218,27 @@ impl Reader {
         requires { ⌜ is-flag b ≡ true ⌝ }
         ensures { λ r. ⌜ stepped (now (self .exit)) r ≡ on-flag (flags-of (view (now (self .entry)) .stack)) (view (now (self .entry))) b ⌝ }
     {
-        let Flags { optional, computed, shorthand } = self.flags();
+        let Flags {
+            optional,
+            computed,
+            shorthand,
+        } = self.flags();
         match char::from(b) {
-            'o' if !optional && !computed && !shorthand => self.mark(Flags { optional: true, computed: false, shorthand: false }),
-            'c' if !computed && !shorthand => self.mark(Flags { optional, computed: true, shorthand: false }),
-            's' if !shorthand => self.mark(Flags { optional, computed, shorthand: true }),
+            'o' if !optional && !computed && !shorthand => self.mark(Flags {
+                optional: true,
+                computed: false,
+                shorthand: false,
+            }),
+            'c' if !computed && !shorthand => self.mark(Flags {
+                optional,
+                computed: true,
+                shorthand: false,
+            }),
+            's' if !shorthand => self.mark(Flags {
+                optional,
+                computed,
+                shorthand: true,
+            }),
             _ => Effect::Unread,
         }
     }

@@ -15,7 +15,8 @@ use std::io::Write;
 use writer::write;
 use writer::written_len;
 
-const HELP: &str = "shorten: reads a page listing from standard input, checks it, and prints it in the form of the writer.
+const HELP: &str =
+    "shorten: reads a page listing from standard input, checks it, and prints it in the form of the writer.
 
     shorten < PAGE      prints the page, or the line (refused NUMBER PLACE) and ends with status 1
     shorten --help      prints this text
@@ -49,7 +50,10 @@ fn asked(rt: &LibcRuntime) -> Result<Task, AnyError> {
         match argument.as_str() {
             "--help" => task = Task::Help,
             _ => {
-                eprintln!(rt, "shorten: unknown argument {argument}; shorten --help tells what there is")?;
+                eprintln!(
+                    rt,
+                    "shorten: unknown argument {argument}; shorten --help tells what there is"
+                )?;
                 return Err("unknown argument".into());
             }
         }
@@ -66,7 +70,12 @@ fn refused(rt: &LibcRuntime, refusal: Refusal) -> Result<(), AnyError> {
 }
 
 // Prints a page that was read.
-fn print_page<'p>(rt: &LibcRuntime, heap: Global, rows: &'p [Row], text: &'p [u8]) -> Result<(), AnyError> {
+fn print_page<'p>(
+    rt: &LibcRuntime,
+    heap: Global,
+    rows: &'p [Row],
+    text: &'p [u8],
+) -> Result<(), AnyError> {
     let len = match written_len(rows, text) {
         Ok(len) => len,
         Err(refusal) => return refused(rt, refusal),
@@ -88,7 +97,12 @@ fn page(rt: &LibcRuntime) -> Result<(), AnyError> {
     let mut text = vec![in heap; 0u8; TEXT_LIMIT]?;
     match read(listing.as_slice(), rows.as_mut_slice(), text.as_mut_slice()) {
         Err(refusal) => refused(rt, refusal),
-        Ok(Size { nodes, bytes }) => print_page(rt, heap, &rows.as_slice()[0..nodes], &text.as_slice()[0..bytes]),
+        Ok(Size { nodes, bytes }) => print_page(
+            rt,
+            heap,
+            &rows.as_slice()[0..nodes],
+            &text.as_slice()[0..bytes],
+        ),
     }
 }
 

@@ -1,92 +1,69 @@
-// Replays a table of listings from standard input, each with what its reading has to answer, and pages at
-// the edges of every limit. It prints each answer that differs, and how many cases there were.
-use pages::Flags;
-use pages::Kind;
-use pages::Refusal;
-use pages::Row;
-use reader::read;
-use std::alloc::AllocError;
+// Replays tables of pages, each with what has to come of it. A line of standard input is
+//     ANSWER|ROWS|BYTES|LISTING
+// and says that the listing, read into so many rows and bytes, gives the answer: a refusal's number and
+// place, or `read`, or `show`, and then the written form is printed. In a listing `~` and two hexadecimal
+// digits stand for a byte, and `{N:TEXT}` for the text N times.
+// Each answer that differs is printed, and then how many cases there were.
+mod cases;
+mod replay;
+mod shapes;
+
+use cases::expanded;
+use replay::replayed;
+use shapes::shape_answers;
 use std::alloc::Global;
 use std::error::AnyError;
+use std::io::BufRead;
 use std::io::BufReader;
+use std::io::Write;
 
-#[cfg(test)]
-mod tests;
-
-pub const EMPTY_ROW: Row = Row {
-    kind: Kind::Node,
-    flags: Flags {
-        optional: false,
-        computed: false,
-        shorthand: false,
-    },
-    start: 0,
-    text: None,
-    children: 0,
-};
-
-fn digit(b: u8) -> u8 {
-    match b {
-        b'0'..=b'9' => b - b'0',
-        b'a'..=b'f' => b - b'a' + 10,
-        _ => 0,
-    }
+// A line of the table, cut into its parts.
+#[derive(Clone, Copy)]
+struct Case<'a> {
+    answer: &'a str,
+    rows: usize,
+    bytes: usize,
+    listing: &'a str,
 }
 
-// The bytes of a case: `~` and two hexadecimal digits stand for any byte.
-fn decoded(heap: Global, case: &[u8]) -> Result<Vec<u8>, AllocError> {
-    let mut bytes = Vec::new(heap);
-    let mut escaped = 0u8;
-    let mut value = 0u8;
-    for b in case {
-        if escaped == 2 {
-            value = digit(*b);
-            escaped = 1;
-        } else if escaped == 1 {
-            bytes.push(value.wrapping_mul(16).wrapping_add(digit(*b)))?;
-            escaped = 0;
-        } else if *b == b'~' {
-            escaped = 2;
-        } else {
-            bytes.push(*b)?;
-        }
-    }
-    Ok(bytes)
+fn cut(line: &str) -> Option<Case> {
+    let (answer, rest) = line.split_once('|')?;
+    let (rows, rest) = rest.split_once('|')?;
+    let (bytes, listing) = rest.split_once('|')?;
+    Some(Case {
+        answer,
+        rows: rows.parse::<usize>().ok()?,
+        bytes: bytes.parse::<usize>().ok()?,
+        listing,
+    })
 }
 
-// What a reading answers, in the words of the table.
-pub fn answer(heap: Global, listing: &[u8], rows: &mut [Row], text: &mut [u8]) -> Result<String, AllocError> {
-    match read(listing, rows, text) {
-        Ok(_) => String::from_str(heap, "read"),
-        Err(refusal) => shown(heap, refusal),
+// Whether a line's page gives its answer.
+fn holds(rt: &LibcRuntime, heap: Global, line: &str) -> Result<bool, AnyError> {
+    let Some(case) = cut(line) else {
+        return Ok(false);
+    };
+    let listing = expanded(heap, case.listing.as_bytes())?;
+    let (found, written) = replayed(heap, listing.as_slice(), case.rows, case.bytes)?;
+    if case.answer == "show" {
+        rt.stdout().write_all(written.as_slice())?;
+        return Ok(found.as_str() == "read");
     }
-}
-
-fn shown(heap: Global, refusal: Refusal) -> Result<String, AllocError> {
-    let number = refusal.number();
-    let place = refusal.place();
-    format!(heap, "{number} {place}")
+    Ok(found.as_str() == case.answer)
 }
 
 fn main(rt: LibcRuntime) -> Result<(), AnyError> {
     let heap = rt.alloc();
-    let mut rows = vec![in heap; EMPTY_ROW; 1000]?;
-    let mut text = vec![in heap; 0u8; 1000]?;
-    let mut cases = 0u32;
+    let mut number = 0u32;
     let mut wrong = 0u32;
     for line in BufReader::new(rt.stdin()).lines(heap) {
         let line = line?;
-        let Some((expected, case)) = line.as_str().split_once('|') else {
-            continue;
-        };
-        let listing = decoded(heap, case.as_bytes())?;
-        let found = answer(heap, listing.as_slice(), rows.as_mut_slice(), text.as_mut_slice())?;
-        cases = cases.wrapping_add(1);
-        if found.as_str() != expected {
+        number = number.wrapping_add(1);
+        if !holds(&rt, heap, line.as_str())? {
             wrong = wrong.wrapping_add(1);
-            println!(rt, "{case} answers {found}, not {expected}")?;
+            println!(rt, "line {number} of the table does not hold")?;
         }
     }
-    println!(rt, "{cases} cases, {wrong} wrong")?;
-    Ok(())
+    println!(rt, "{number} listings, {wrong} wrong")?;
+    shape_answers(&rt, heap)
 }

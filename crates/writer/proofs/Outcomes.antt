@@ -188,9 +188,10 @@ same-listed t u e = cc
 -- a listing of a lawful tree reads back to it
 back : (ns : List Node) (t : Tree) → ns ≡ nodes t → Lawful t → Listing (written t) t → Reads-back ns t (written t)
 back ns t e l x rows text r rows′ text′ rd fits =
-    let only : read t ≡ rd .outcome = rd .only (read t) (is-read t x l fits) in
-    (rd .answered ∙ (ap answer-to (sym only) ∙ (λ k. Ok (record { nodes = length (sym e k); bytes = length (texts (sym e k)) }))),
-      (λ k. shown text′ (take (length (e k)) rows′)) ∙ (rd .holds t (sym only) ∙ sym e))
+    let only : read t ≡ rd .outcome = rd .only (read t) (is-read t x l fits) in (
+      rd .answered ∙ (ap answer-to (sym only) ∙ (λ k. Ok (record { nodes = length (sym e k); bytes = length (texts (sym e k)) }))),
+      (λ k. shown text′ (take (length (e k)) rows′)) ∙ (rd .holds t (sym only) ∙ sym e),
+    )
 
 reads-again : {ns : List Node} {rows text room : ℕ} {o : Outcome} → Comes-to ns rows text room o → (t : Tree) → o ≡ listed t → Reads-back ns t (written t)
 reads-again (is-misshapen n j) t e = let z : _≡_ {A = ℕ} 0 1 = cc in absurd (omega arith)

@@ -10,8 +10,9 @@ use Rattle.reader.proofs.word.begins.Needs.{then-i-name·by·then-i-name, then
 pub returns-then-i-name : need.returns-then-i-name
 returns-then-i-name c =
     sym (c .loop-i .inv ∙ elim (c .then-i-name .came) [
-      then-i-name·by·then-i-name w ↦ prefix-fails (c .args .letters .now) (c .args .name .now) (c .loop-i .i) (c .loop-i-test .taken) (inl (w .if-i-name .taken))
-    | then-i-name·by·else-i-name·then-name-i w ↦ prefix-fails (c .args .letters .now) (c .args .name .now) (c .loop-i .i) (c .loop-i-test .taken) (inr (w .if-i-name .left, w .if-name-i .taken)) ])
+      | then-i-name·by·then-i-name w ↦ prefix-fails (c .args .letters .now) (c .args .name .now) (c .loop-i .i) (c .loop-i-test .taken) (inl (w .if-i-name .taken))
+      | then-i-name·by·else-i-name·then-name-i w ↦ prefix-fails (c .args .letters .now) (c .args .name .now) (c .loop-i .i) (c .loop-i-test .taken) (inr (w .if-i-name .left, w .if-name-i .taken))
+    ])
 
 pub loop-i-again : need.loop-i-again
 loop-i-again c =

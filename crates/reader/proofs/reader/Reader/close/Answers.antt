@@ -19,9 +19,10 @@ returns c =
     let around : List scan.Open = unwound (r .depth - 1) (r .stack) in
     let closed : Phase → Option ℕ → Step = λ p f. record { to = record { phase = p; stack = around; nodes = r .nodes; bytes = r .bytes; fault = f }; effect = scan.row-done (e .number) (e .row) } in
     let phase : phase-of (c .if-depth-eq0 .self) ≡ phase-in around =
-      elim (c .if-depth-eq0 .came) [
-        then-depth-eq0 w ↦ ap phase-of (w .self-is) ∙ phase-outside (r .depth - 1) (r .stack) (w .if-depth-eq0 .taken)
-      | else-depth-eq0 w ↦ ap phase-of (w .self-is) ∙ phase-inside (r .depth - 1) (r .stack) (w .if-depth-eq0 .left) ] in
+    elim (c .if-depth-eq0 .came) [
+      | then-depth-eq0 w ↦ ap phase-of (w .self-is) ∙ phase-outside (r .depth - 1) (r .stack) (w .if-depth-eq0 .taken)
+      | else-depth-eq0 w ↦ ap phase-of (w .self-is) ∙ phase-inside (r .depth - 1) (r .stack) (w .if-depth-eq0 .left)
+    ] in
     ap (λ p. closed p (c .fault-after-fault .result)) phase
     ∙ (ap (closed (phase-in around)) (c .fault-after-fault .ensures)
     ∙ sym (ap (λ s. close-bracket s (view r)) (unwound-pop (r .depth) (r .stack) (omega (arith, c .if-self-eq0 .left)))))

@@ -18,7 +18,7 @@ returns-then-is-shapely c =
     let n = c .args .self .now .bytes in
     let at : Place → Bool = λ p. shapely (record { place = p; level = 1; node = shows (replicate n 0) (c .args .innermost .row) }) in
     let e : at (place-in (unwound (c .args .self .now .depth - 1) (c .args .self .now .stack))) ≡ true =
-      ap at (sym (c .place .ensures)) ∙ (sym (c .is-shapely .ensures (replicate n 0) 1 (length-replicate n 0)) ∙ c .if-is-shapely .taken) in
+    ap at (sym (c .place .ensures)) ∙ (sym (c .is-shapely .ensures (replicate n 0) 1 (length-replicate n 0)) ∙ c .if-is-shapely .taken) in
     sym (cond-true _ (c .args .self .now .fault) (lower (c .args .self .now .fault) (c .args .innermost .number)) e)
 
 pub returns-else-is-shapely : need.returns-else-is-shapely
@@ -26,5 +26,5 @@ returns-else-is-shapely c =
     let n = c .args .self .now .bytes in
     let at : Place → Bool = λ p. shapely (record { place = p; level = 1; node = shows (replicate n 0) (c .args .innermost .row) }) in
     let e : at (place-in (unwound (c .args .self .now .depth - 1) (c .args .self .now .stack))) ≡ false =
-      ap at (sym (c .place .ensures)) ∙ (sym (c .is-shapely .ensures (replicate n 0) 1 (length-replicate n 0)) ∙ c .if-is-shapely .left) in
+    ap at (sym (c .place .ensures)) ∙ (sym (c .is-shapely .ensures (replicate n 0) 1 (length-replicate n 0)) ∙ c .if-is-shapely .left) in
     c .lower .ensures ∙ sym (cond-false _ (c .args .self .now .fault) (lower (c .args .self .now .fault) (c .args .innermost .number)) e)

@@ -11,4 +11,4 @@ pub returns-then-self-gt0 : need.returns-then-self-gt0
 returns-then-self-gt0 c =
     let r = c .args .self .now in
     ap (λ s. restacked s (view r)) (changed-innermost with-byte (r .stack) (r .depth) _ (c .if-self-gt0 .taken) (omega arith)
-      (ap (λ p. with-text p (open-of (getD (r .stack) (r .depth - 1) no-open))) (c .grown-part .ensures)))
+    (ap (λ p. with-text p (open-of (getD (r .stack) (r .depth - 1) no-open))) (c .grown-part .ensures)))

@@ -15,14 +15,14 @@ pub returns-then-word-ge-LONGEST : need.returns-then-word-ge-LONGEST
 returns-then-word-ge-LONGEST c =
     let w = c .args .word in
     sym (cond-false _ (on-to (in-word (letters-of w ++ c .args .b ∷ [])) (view (c .args .self .now))) (stuck (view (c .args .self .now)))
-      (begun-long (w .letters) (w .len) (c .args .b) (omega arith) (c .if-word-ge-LONGEST .taken)))
+    (begun-long (w .letters) (w .len) (c .args .b) (omega arith) (c .if-word-ge-LONGEST .taken)))
 
 pub returns-then-begins-name : need.returns-then-begins-name
 returns-then-begins-name c =
     let w = c .args .word in
     let v = view (c .args .self .now) in
     let more : take (w .len + 1 - 0) (set (w .letters) (w .len) (c .args .b)) ≡ letters-of w ++ c .args .b ∷ [] =
-      letters-more (w .letters) (w .len) (c .args .b) (omega arith) in
+    letters-more (w .letters) (w .len) (c .args .b) (omega arith) in
     let one : w .len + 1 - 0 ≡ w .len + 1 = omega arith in
     let e : begun (letters-of w ++ c .args .b ∷ []) ≡ true = ap begun (sym more) ∙ (sym (c .begins-name .ensures) ∙ c .if-begins-name .taken) in
     c .go .ensures
@@ -34,6 +34,6 @@ returns-else-begins-name c =
     let w = c .args .word in
     let v = view (c .args .self .now) in
     let more : take (w .len + 1 - 0) (set (w .letters) (w .len) (c .args .b)) ≡ letters-of w ++ c .args .b ∷ [] =
-      letters-more (w .letters) (w .len) (c .args .b) (omega arith) in
+    letters-more (w .letters) (w .len) (c .args .b) (omega arith) in
     let e : begun (letters-of w ++ c .args .b ∷ []) ≡ false = ap begun (sym more) ∙ (sym (c .begins-name .ensures) ∙ c .if-begins-name .left) in
     sym (cond-false _ (on-to (in-word (letters-of w ++ c .args .b ∷ [])) v) (stuck v) e)

@@ -13,7 +13,7 @@ returns-in-Some c =
     let w = c .args .word in
     let v = view (c .args .self .now) in
     let e : kind-named (letters-of w) ≡ Some (c .in-Some .kind) =
-      ap kind-named (sym (letters-within (w .letters) (w .len) (c .min-len .result) (omega arith) (c .min-len .ensures))) ∙ (sym (c .named .ensures) ∙ c .in-Some .is) in
+    ap kind-named (sym (letters-within (w .letters) (w .len) (c .min-len .result) (omega arith) (c .min-len .ensures))) ∙ (sym (c .named .ensures) ∙ c .in-Some .is) in
     c .go .ensures ∙ (ap (on-to named) (c .set-kind .ensures) ∙ sym (ap (λ k. on-name k v) e))
 
 pub returns-in-None : need.returns-in-None
@@ -21,5 +21,5 @@ returns-in-None c =
     let w = c .args .word in
     let v = view (c .args .self .now) in
     let e : kind-named (letters-of w) ≡ None =
-      ap kind-named (sym (letters-within (w .letters) (w .len) (c .min-len .result) (omega arith) (c .min-len .ensures))) ∙ (sym (c .named .ensures) ∙ c .in-None .is) in
+    ap kind-named (sym (letters-within (w .letters) (w .len) (c .min-len .result) (omega arith) (c .min-len .ensures))) ∙ (sym (c .named .ensures) ∙ c .in-None .is) in
     sym (ap (λ k. on-name k v) e)
