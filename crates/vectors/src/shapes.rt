@@ -60,71 +60,77 @@ fn wrapped(heap: Global, wrappers: usize, rows: &[Row]) -> Result<String, AllocE
     shape(heap, all.as_slice(), b"")
 }
 
-fn ends(rt: &LibcRuntime, heap: Global) -> Result<(), AnyError> {
-    println!(rt, "no rows: {}", shape(heap, &[], b"")?)?;
-    println!(rt, "a wrapper alone: {}", shape(heap, &[PAREN], b"")?)?;
-    println!(
-        rt,
-        "more children than rows: {}",
-        shape(heap, &[node_with(usize::MAX), node_with(0)], b"")?
-    )?;
-    println!(rt, "64 wrappers alone: {}", wrapped(heap, 64, &[])?)?;
-    println!(
-        rt,
-        "a left-over node: {}",
-        shape(heap, &[node_with(0), PAREN], b"")?
-    )?;
-    println!(
-        rt,
-        "a left-over node after a child: {}",
-        shape(heap, &[node_with(1), node_with(0), node_with(0)], b"")?
-    )?;
+// Prints an answer beside what it is the answer to.
+fn tell(rt: &LibcRuntime, what: &str, answer: Result<String, AllocError>) -> Result<(), AnyError> {
+    let answer = answer?;
+    rt.print(what)?;
+    rt.print(": ")?;
+    rt.println(answer)?;
     Ok(())
+}
+
+fn ends(rt: &LibcRuntime, heap: Global) -> Result<(), AnyError> {
+    tell(rt, "no rows", shape(heap, &[], b""))?;
+    tell(rt, "a wrapper alone", shape(heap, &[PAREN], b""))?;
+    tell(
+        rt,
+        "more children than rows",
+        shape(heap, &[node_with(usize::MAX), node_with(0)], b""),
+    )?;
+    tell(rt, "64 wrappers alone", wrapped(heap, 64, &[]))?;
+    tell(
+        rt,
+        "a left-over node",
+        shape(heap, &[node_with(0), PAREN], b""),
+    )?;
+    tell(
+        rt,
+        "a left-over node after a child",
+        shape(heap, &[node_with(1), node_with(0), node_with(0)], b""),
+    )
 }
 
 fn levels(rt: &LibcRuntime, heap: Global) -> Result<(), AnyError> {
-    println!(rt, "level 64: {}", wrapped(heap, 63, &[node_with(0)])?)?;
-    println!(rt, "level 65: {}", wrapped(heap, 64, &[node_with(0)])?)?;
-    println!(
+    tell(rt, "level 64", wrapped(heap, 63, &[node_with(0)]))?;
+    tell(rt, "level 65", wrapped(heap, 64, &[node_with(0)]))?;
+    tell(
         rt,
-        "level 65 before a misshapen node: {}",
-        wrapped(heap, 64, &[node_with(1), PAREN])?
+        "level 65 before a misshapen node",
+        wrapped(heap, 64, &[node_with(1), PAREN]),
     )?;
-    println!(
+    tell(
         rt,
-        "a misshapen node on level 65: {}",
-        wrapped(heap, 64, &[name_over(1, 0)])?
-    )?;
-    Ok(())
+        "a misshapen node on level 65",
+        wrapped(heap, 64, &[name_over(1, 0)]),
+    )
 }
 
 fn parts(rt: &LibcRuntime, heap: Global) -> Result<(), AnyError> {
-    println!(
+    tell(
         rt,
-        "a text that is all of it: {}",
-        shape(heap, &[name_over(0, 3)], b"abc")?
+        "a text that is all of it",
+        shape(heap, &[name_over(0, 3)], b"abc"),
     )?;
-    println!(
+    tell(
         rt,
-        "an empty text at the end: {}",
-        shape(heap, &[name_over(3, 0)], b"abc")?
+        "an empty text at the end",
+        shape(heap, &[name_over(3, 0)], b"abc"),
     )?;
-    println!(
+    tell(
         rt,
-        "an empty text past the end: {}",
-        shape(heap, &[name_over(4, 0)], b"abc")?
+        "an empty text past the end",
+        shape(heap, &[name_over(4, 0)], b"abc"),
     )?;
-    println!(
+    tell(
         rt,
-        "a text past the end: {}",
-        shape(heap, &[name_over(1, 3)], b"abc")?
+        "a text past the end",
+        shape(heap, &[name_over(1, 3)], b"abc"),
     )?;
-    println!(
+    tell(
         rt,
-        "a text far past the end: {}",
-        shape(heap, &[name_over(usize::MAX, usize::MAX)], b"abc")?
-    )?;
-    Ok(())
+        "a text far past the end",
+        shape(heap, &[name_over(usize::MAX, usize::MAX)], b"abc"),
+    )
 }
 
 // A page of so many nodes, with so many bytes of text.
@@ -137,18 +143,21 @@ fn wide(heap: Global, nodes: usize, bytes: usize) -> Result<String, AllocError> 
     length(heap, rows.as_slice(), text.as_slice())
 }
 
+fn limits(rt: &LibcRuntime, heap: Global) -> Result<(), AnyError> {
+    tell(rt, "65536 rows", wide(heap, 65_536, 0))?;
+    tell(rt, "65537 rows", wide(heap, 65_537, 0))?;
+    tell(rt, "1048576 bytes", wide(heap, 1, 1_048_576))?;
+    tell(rt, "1048577 bytes", wide(heap, 1, 1_048_577))?;
+    tell(
+        rt,
+        "a misshapen page past a limit",
+        wide(heap, 0, 1_048_577),
+    )
+}
+
 pub fn shape_answers(rt: &LibcRuntime, heap: Global) -> Result<(), AnyError> {
     ends(rt, heap)?;
     levels(rt, heap)?;
     parts(rt, heap)?;
-    println!(rt, "65536 rows: {}", wide(heap, 65_536, 0)?)?;
-    println!(rt, "65537 rows: {}", wide(heap, 65_537, 0)?)?;
-    println!(rt, "1048576 bytes: {}", wide(heap, 1, 1_048_576)?)?;
-    println!(rt, "1048577 bytes: {}", wide(heap, 1, 1_048_577)?)?;
-    println!(
-        rt,
-        "a misshapen page past a limit: {}",
-        wide(heap, 0, 1_048_577)?
-    )?;
-    Ok(())
+    limits(rt, heap)
 }

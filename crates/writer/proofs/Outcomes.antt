@@ -107,21 +107,21 @@ module _ {ns : List Node} {r : Result (Unit {0}) Refusal} {rows text room : ℕ}
   one-outcome (is-misshapen m j) (is-misshapen n k) = same-misshapen m n (same-verdict ch _ _ j k)
   one-outcome (is-misshapen m j) (is-deep n k) = absurd (misshapen-deep m n (same-verdict ch _ _ j k))
   one-outcome (is-misshapen m j) (is-overfull u e l h) = absurd (misshapen-lawful m (same-verdict ch _ _ j (whole u l e)))
-  one-outcome (is-misshapen m j) (is-listed u e l h x) = absurd (misshapen-lawful m (same-verdict ch _ _ j (whole u l e)))
+  one-outcome (is-misshapen m j) (is-listed u e l h) = absurd (misshapen-lawful m (same-verdict ch _ _ j (whole u l e)))
   one-outcome (is-deep m j) (is-misshapen n k) = absurd (misshapen-deep n m (same-verdict ch _ _ k j))
   one-outcome (is-deep m j) (is-deep n k) = same-deep m n (same-verdict ch _ _ j k)
   one-outcome (is-deep m j) (is-overfull u e l h) = absurd (deep-lawful m (same-verdict ch _ _ j (whole u l e)))
-  one-outcome (is-deep m j) (is-listed u e l h x) = absurd (deep-lawful m (same-verdict ch _ _ j (whole u l e)))
+  one-outcome (is-deep m j) (is-listed u e l h) = absurd (deep-lawful m (same-verdict ch _ _ j (whole u l e)))
   one-outcome (is-overfull t d i g) (is-misshapen n k) = absurd (misshapen-lawful n (same-verdict ch _ _ k (whole t i d)))
   one-outcome (is-overfull t d i g) (is-deep n k) = absurd (deep-lawful n (same-verdict ch _ _ k (whole t i d)))
   one-outcome (is-overfull t d i g) (is-overfull u e l h) = refl
-  one-outcome (is-overfull t d i g) (is-listed u e l h x) =
+  one-outcome (is-overfull t d i g) (is-listed u e l h) =
       absurd (g (subst (λ (y : Tree). Has-room y rows text room) (ch .one-tree u t e d) h))
-  one-outcome (is-listed t d i g y) (is-misshapen n k) = absurd (misshapen-lawful n (same-verdict ch _ _ k (whole t i d)))
-  one-outcome (is-listed t d i g y) (is-deep n k) = absurd (deep-lawful n (same-verdict ch _ _ k (whole t i d)))
-  one-outcome (is-listed t d i g y) (is-overfull u e l h) =
+  one-outcome (is-listed t d i g) (is-misshapen n k) = absurd (misshapen-lawful n (same-verdict ch _ _ k (whole t i d)))
+  one-outcome (is-listed t d i g) (is-deep n k) = absurd (deep-lawful n (same-verdict ch _ _ k (whole t i d)))
+  one-outcome (is-listed t d i g) (is-overfull u e l h) =
       absurd (h (subst (λ (x : Tree). Has-room x rows text room) (ch .one-tree t u d e) g))
-  one-outcome (is-listed t d i g y) (is-listed u e l h x) = ap listed (ch .one-tree t u d e)
+  one-outcome (is-listed t d i g) (is-listed u e l h) = ap listed (ch .one-tree t u d e)
 
   -- what it comes to, and with that answer
   comes : (o : Outcome) → Comes-to ns rows text room o → Measured ns rows text room (answer o)
@@ -156,8 +156,7 @@ measured-listed {ns} {rows} {text} {room} ch out after len rows-limit text-limit
     let fits : len ≤ room = l .1 .within (omega arith) in
     subst (λ (n : ℕ). Measured ns rows text room (Ok n)) (sym is-len)
     (comes ch (listed t) (is-listed t (p .shows-it) (p .is-lawful)
-    (record { rows-limit = rows-limit; text-limit = text-limit; listing-room = omega arith })
-    (written-lists t (p .is-lawful) (l .0))))
+    (record { rows-limit = rows-limit; text-limit = text-limit; listing-room = omega arith })))
 
 -- A page that was measured: the outcome is its tree's listing, which has room.
 pub record Sized {ns : List Node} {rows text room len : ℕ} (m : Measured ns rows text room (Ok len)) : Type 0 where
@@ -173,7 +172,7 @@ sized {ns} {rows} {text} {room} {len} m = go (m .outcome) (m .comes-to) (m .answ
     go (misshapen-at n) c q e = let z : _≡_ {A = ℕ} 0 1 = cc in absurd (omega arith)
     go (deep-at n) c q e = let z : _≡_ {A = ℕ} 0 1 = cc in absurd (omega arith)
     go overfull c q e = let z : _≡_ {A = ℕ} 0 1 = cc in absurd (omega arith)
-    go (listed (tree l f)) (is-listed _ d h g x) q e =
+    go (listed (tree l f)) (is-listed _ d h g) q e =
         let n : len ≡ length (written (tree l f)) = cc in
         record {
           page = record { label = l; forest = f; shows-it = d; is-lawful = h };
@@ -193,11 +192,14 @@ back ns t e l x rows text r rows′ text′ rd fits =
       (λ k. shown text′ (take (length (e k)) rows′)) ∙ (rd .holds t (sym only) ∙ sym e),
     )
 
-reads-again : {ns : List Node} {rows text room : ℕ} {o : Outcome} → Comes-to ns rows text room o → (t : Tree) → o ≡ listed t → Reads-back ns t (written t)
-reads-again (is-misshapen n j) t e = let z : _≡_ {A = ℕ} 0 1 = cc in absurd (omega arith)
-reads-again (is-deep n j) t e = let z : _≡_ {A = ℕ} 0 1 = cc in absurd (omega arith)
-reads-again (is-overfull u d i g) t e = let z : _≡_ {A = ℕ} 0 1 = cc in absurd (omega arith)
-reads-again {ns} (is-listed u d i g y) t e = subst (λ (v : Tree). Reads-back ns v (written v)) (same-listed u t e) (back ns u d i y)
+reads-again : {ns : List Node} {rows text room : ℕ} {o : Outcome} → Comes-to ns rows text room o → (t : Tree) → o ≡ listed t → Listing (written t) t
+    → Reads-back ns t (written t)
+reads-again (is-misshapen n j) t e x = let z : _≡_ {A = ℕ} 0 1 = cc in absurd (omega arith)
+reads-again (is-deep n j) t e x = let z : _≡_ {A = ℕ} 0 1 = cc in absurd (omega arith)
+reads-again (is-overfull u d i g) t e x = let z : _≡_ {A = ℕ} 0 1 = cc in absurd (omega arith)
+reads-again {ns} (is-listed u d i g) t e x =
+    let same : u ≡ t = same-listed u t e in
+    back ns t (d ∙ ap nodes same) (subst Lawful same i) x
 
 -- what is put into a measured room is the listing
 pub listed-whole : {ns : List Node} {rows text len : ℕ} {out : List ℕ} (m : Measured ns rows text (length out) (Ok len)) (after : List ℕ) (r : Option ℕ)
@@ -206,6 +208,8 @@ listed-whole {ns} {rows} {text} {len} {out} m after None l = absurd (omega (arit
 listed-whole {ns} {rows} {text} {len} {out} m after (Some next) l =
     let t : Tree = tree (sized m .page .label) (sized m .page .forest) in
     let fits : 0 + length (written t) ≤ length out = omega (arith, sized m .is-len, sized m .has-room) in
+    let lists : (u : Tree) → m .outcome ≡ listed u → Listing (written u) u =
+    λ u e. subst (λ (v : Tree). Listing (written v) v) (same-listed t u (sym (sized m .outcome-is) ∙ e)) (written-lists t (sized m .page .is-lawful) (l .0)) in
     record {
       outcome = m .outcome;
       comes-to = m .comes-to;
@@ -215,5 +219,6 @@ listed-whole {ns} {rows} {text} {len} {out} m after (Some next) l =
           ∙ sets-eq (written t) out 0 fits
           ∙ ap (λ (n : ℕ). written t ++ drop n out) (zero-add (length (written t)))
           ∙ ap (λ (o : Outcome). memory-after o out) (sym (sized m .outcome-is));
-      reads-back = reads-again (m .comes-to);
+      is-listing = lists;
+      reads-back = λ u e. reads-again (m .comes-to) u e (lists u e);
     }

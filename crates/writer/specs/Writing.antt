@@ -31,13 +31,12 @@ pub data Outcome : Type 0 where
   listed : Tree → Outcome
 
 -- Which outcome a page has whose rows show these nodes: rows that form no lawful tree are refused at the node
--- that is to blame; then a page past a limit, or without room for its listing; else its tree is listed, and
--- what is written is a listing by the grammar.
+-- that is to blame; then a page past a limit, or without room for its listing; else its tree is listed.
 pub data Comes-to (ns : List Node) (rows text room : ℕ) : Outcome → Type 0 where
   is-misshapen : (n : ℕ) → Judged ns (misshapen n) → Comes-to ns rows text room (misshapen-at n)
   is-deep : (n : ℕ) → Judged ns (deep n) → Comes-to ns rows text room (deep-at n)
   is-overfull : (t : Tree) → ns ≡ nodes t → Lawful t → (Has-room t rows text room → ⊥) → Comes-to ns rows text room overfull
-  is-listed : (t : Tree) → ns ≡ nodes t → Lawful t → Has-room t rows text room → Listing (written t) t → Comes-to ns rows text room (listed t)
+  is-listed : (t : Tree) → ns ≡ nodes t → Lawful t → Has-room t rows text room → Comes-to ns rows text room (listed t)
 
 -- the answer: the length of the listing, or the refusal
 abbrev pub answer : Outcome → Result ℕ Refusal
@@ -69,11 +68,12 @@ Reads-back ns t s =
     → (r ≡ Ok (record { nodes = length ns; bytes = length (texts ns) })) × (shown text′ (take (length ns) rows′) ≡ ns)
 
 -- The listing was written to the front of the memory, or nothing was, and `r` was answered. No other outcome is
--- possible, and what was written reads back.
+-- possible. What was written is a listing by the grammar, and reads back.
 pub record Listed (ns : List Node) (rows text : ℕ) (out after : List ℕ) (r : Result ℕ Refusal) : Type 0 where
   pub outcome : Outcome
   pub comes-to : Comes-to ns rows text (length out) outcome
   pub only : (o : Outcome) → Comes-to ns rows text (length out) o → o ≡ outcome
   pub answered : r ≡ answer outcome
   pub left : after ≡ memory-after outcome out
+  pub is-listing : (t : Tree) → outcome ≡ listed t → Listing (written t) t
   pub reads-back : (t : Tree) → outcome ≡ listed t → Reads-back ns t (written t)
