@@ -26,6 +26,25 @@ pub struct Row {
     pub children: usize,
 }
 
+// No flag is set.
+pub const NO_FLAGS: Flags = Flags {
+    optional: false,
+    computed: false,
+    shorthand: false,
+};
+
+// A row with nothing in it: what a refused reading leaves everywhere.
+pub const CLEARED: Row = Row {
+    kind: Kind::Node,
+    flags: NO_FLAGS,
+    start: 0,
+    text: None,
+    children: 0,
+};
+
+// The deepest level on which a node may lie; the root's is 1.
+pub const LEVEL_LIMIT: usize = 64;
+
 // The most nodes that a tree has, and the most bytes that its text has.
 pub const NODE_LIMIT: usize = 65_536;
 

@@ -17,6 +17,7 @@ use crate::kind::Texts;
 use crate::refusal::Refusal;
 use crate::row::Flags;
 use crate::row::FlagsPartialEq;
+use crate::row::LEVEL_LIMIT;
 use crate::row::Part;
 use crate::row::Row;
 
@@ -145,9 +146,6 @@ pub fn is_shapely(place: Place, row: &Row, text_len: usize) -> bool
         && are_flags_right(row.kind, row.flags)
 }
 
-// The deepest level on which a node may lie; the root's is 1.
-const DEEPEST: usize = 64;
-
 // The number of the row after the subtree that begins with the row `at`, whose node stands in this place.
 fn subtree<'a>(
     rows: &'a [Row],
@@ -165,7 +163,7 @@ fn subtree<'a>(
     if !is_shapely(place, &row, text.len()) {
         return Err(Refusal::Misshapen(at));
     }
-    if level > DEEPEST {
+    if level > LEVEL_LIMIT {
         return Err(Refusal::Deep(at));
     }
     let children = row.children;

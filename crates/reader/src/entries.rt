@@ -8,43 +8,11 @@ ghost use Rattle.reader.specs.Room.{Room};
 use crate::open::Open;
 use crate::open::State;
 use crate::reader::Reader;
+use pages::CLEARED;
 use pages::Flags;
 use pages::Kind;
+use pages::LEVEL_LIMIT;
 use pages::Part;
-use pages::Row;
-
-// No flag is set.
-pub const NO_FLAGS: Flags = Flags {
-    optional: false,
-    computed: false,
-    shorthand: false,
-};
-
-// A cleared row.
-pub const ZERO: Row = Row {
-    kind: Kind::Node,
-    flags: NO_FLAGS,
-    start: 0,
-    text: None,
-    children: 0,
-};
-
-// A text's part, longer by one byte.
-fn grown(text: Option<Part>) -> Part
-    requires { ⌜ grown text .length < 2 ^ 64 ⌝ }
-    ensures { λ r. ⌜ r ≡ grown text ⌝ }
-{
-    match text {
-        Some(part) => Part {
-            offset: part.offset,
-            length: part.length + 1,
-        },
-        None => Part {
-            offset: 0,
-            length: 1,
-        },
-    }
-}
 
 impl Reader {
     // A reader before its first byte.
@@ -54,9 +22,9 @@ impl Reader {
         Reader {
             state: State::Before,
             stack: [Open {
-                row: ZERO,
+                row: CLEARED,
                 number: 0,
-            }; 64],
+            }; LEVEL_LIMIT],
             depth: 0,
             nodes: 0,
             bytes: 0,
@@ -116,5 +84,22 @@ impl Reader {
             let part = grown(self.stack[self.depth - 1].row.text);
             self.stack[self.depth - 1].row.text = Some(part);
         }
+    }
+}
+
+// A text's part, longer by one byte.
+fn grown(text: Option<Part>) -> Part
+    requires { ⌜ grown text .length < 2 ^ 64 ⌝ }
+    ensures { λ r. ⌜ r ≡ grown text ⌝ }
+{
+    match text {
+        Some(part) => Part {
+            offset: part.offset,
+            length: part.length + 1,
+        },
+        None => Part {
+            offset: 0,
+            length: 1,
+        },
     }
 }

@@ -8,9 +8,9 @@ ghost use Rattle.grammar.specs.Scan.{after};
 ghost use Rattle.std.specs.Vec.{made};
 ghost use Rattle.reader.specs.Reads.{Reads, Finds};
 ghost use Rattle.reader.specs.View.{view};
-use entries::ZERO;
 use memory::clear;
 use open::State;
+use pages::CLEARED;
 use pages::NODE_LIMIT;
 use pages::Refusal;
 use pages::Row;
@@ -83,7 +83,7 @@ pub fn read<'a>(listing: &'a [u8], rows: &mut [Row], text: &mut [u8]) -> Result<
     match fill(listing, rows, text) {
         Ok(size) => Ok(size),
         Err(refusal) => {
-            clear(rows, ZERO);
+            clear(rows, CLEARED);
             clear(text, 0);
             Err(refusal)
         }

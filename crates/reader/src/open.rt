@@ -1,5 +1,4 @@
 // What the reader waits for, and what it keeps of each open bracket.
-use pages::Kind;
 use pages::Row;
 
 // The longest name of a kind has nine letters.
@@ -8,12 +7,12 @@ pub const LONGEST: usize = 9;
 // The letters of a kind's name so far.
 #[derive(Clone, Copy)]
 pub struct Word {
-    pub letters: [u8; 9],
+    pub letters: [u8; LONGEST],
     pub len: usize,
 }
 
 pub const NO_LETTERS: Word = Word {
-    letters: [0; 9],
+    letters: [0; LONGEST],
     len: 0,
 };
 

@@ -6,8 +6,6 @@ ghost use Prim.Native.Nat.{_+_, _-_, _<_};
 ghost use Rattle.grammar.specs.Scan.{on-to, open-bracket, close-bracket, on-letter, on-name, kind-named, on-number, on-digit, on-flags, on-flag, between, on-quote, on-byte, next, start-of, flags-of, place-in, lower, fault-after, is-flag};
 ghost use Rattle.reader.specs.View.{view, stepped, phase-of, letters-of, unwound, open-of};
 ghost use Rattle.reader.specs.Room.{Room};
-use crate::entries::NO_FLAGS;
-use crate::entries::ZERO;
 use crate::open::Effect;
 use crate::open::LONGEST;
 use crate::open::NO_LETTERS;
@@ -17,7 +15,10 @@ use crate::open::Word;
 use crate::reader::Reader;
 use crate::word::begins_name;
 use crate::word::named;
+use pages::CLEARED;
 use pages::Flags;
+use pages::LEVEL_LIMIT;
+use pages::NO_FLAGS;
 use pages::Part;
 use pages::Place;
 use pages::is_shapely;
@@ -52,12 +53,15 @@ impl Reader {
         requires { ⌜ Room (now self) ⌝ }
         ensures { λ r. ⌜ stepped (now (self .exit)) r ≡ open-bracket (view (now (self .entry))) ⌝ }
     {
-        if self.depth >= 64 {
+        if self.depth >= LEVEL_LIMIT {
             return Effect::Unread;
         }
         self.add_child();
         let number = self.nodes;
-        self.stack[self.depth] = Open { row: ZERO, number };
+        self.stack[self.depth] = Open {
+            row: CLEARED,
+            number,
+        };
         self.depth += 1;
         self.nodes = number + 1;
         self.state = State::Opened;

@@ -58,7 +58,7 @@ fn some_begins(kinds: &[Kind], letters: &[u8]) -> bool
 }
 
 // Whether some kind's name begins with these letters.
-pub fn begins_name(letters: &[u8]) -> bool
+pub(crate) fn begins_name(letters: &[u8]) -> bool
     ensures { λ r. ⌜ r ≡ begun (now (letters .entry)) ⌝ }
 {
     some_begins(&KINDS, letters)
@@ -84,7 +84,7 @@ fn first_named(kinds: &[Kind], letters: &[u8]) -> Option<Kind>
 }
 
 // The kind whose name the letters are.
-pub fn named(letters: &[u8]) -> Option<Kind>
+pub(crate) fn named(letters: &[u8]) -> Option<Kind>
     ensures { λ r. ⌜ r ≡ kind-named (now (letters .entry)) ⌝ }
 {
     first_named(&KINDS, letters)

@@ -1,6 +1,5 @@
 // Reads a page listing from standard input, checks it, and prints it in the writer's form.
-use pages::Flags;
-use pages::Kind;
+use pages::CLEARED;
 use pages::NODE_LIMIT;
 use pages::Refusal;
 use pages::Row;
@@ -24,18 +23,6 @@ const HELP: &str =
 Refusals: 1 misshapen (the node), 2 deep (the node), 3 unread (the byte), 9 overfull (0).
 docs/RULES.md says what a listing is, and when each refusal comes.
 ";
-
-const EMPTY_ROW: Row = Row {
-    kind: Kind::Node,
-    flags: Flags {
-        optional: false,
-        computed: false,
-        shorthand: false,
-    },
-    start: 0,
-    text: None,
-    children: 0,
-};
 
 // What the command line asks for.
 #[derive(Clone, Copy)]
@@ -93,7 +80,7 @@ fn page(rt: &LibcRuntime) -> Result<(), AnyError> {
     let heap = rt.alloc();
     let mut listing = Vec::new(heap);
     rt.stdin().read_to_end(&mut listing)?;
-    let mut rows = vec![in heap; EMPTY_ROW; NODE_LIMIT]?;
+    let mut rows = vec![in heap; CLEARED; NODE_LIMIT]?;
     let mut text = vec![in heap; 0u8; TEXT_LIMIT]?;
     match read(listing.as_slice(), rows.as_mut_slice(), text.as_mut_slice()) {
         Err(refusal) => refused(rt, refusal),

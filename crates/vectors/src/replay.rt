@@ -1,6 +1,7 @@
 // A listing is read, checked for what it leaves in memory, written, and read again.
-use pages::Flags;
+use pages::CLEARED;
 use pages::Kind;
+use pages::NO_FLAGS;
 use pages::Refusal;
 use pages::Row;
 use pages::RowPartialEq;
@@ -10,20 +11,6 @@ use std::alloc::AllocError;
 use std::alloc::Global;
 use writer::write;
 use writer::written_len;
-
-pub const NO_FLAGS: Flags = Flags {
-    optional: false,
-    computed: false,
-    shorthand: false,
-};
-
-const CLEARED: Row = Row {
-    kind: Kind::Node,
-    flags: NO_FLAGS,
-    start: 0,
-    text: None,
-    children: 0,
-};
 
 // What memory holds before a reading: no page has such rows or bytes.
 const USED: Row = Row {

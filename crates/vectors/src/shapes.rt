@@ -1,7 +1,7 @@
 // Rows that no listing gives: the answers of the shape check, and of the writer past a limit.
-use crate::replay::NO_FLAGS;
 use crate::replay::refusal_line;
 use pages::Kind;
+use pages::NO_FLAGS;
 use pages::Part;
 use pages::Row;
 use pages::check_shape;

@@ -17,11 +17,11 @@ returns-then-not-is-shapely t c =
     stops-misshapen _ _ _ _ _ (shown-from (c .args .text .now) (c .args .rows .now) (c .args .at) cleared (c .if-at-rows .left))
     (sym (c .is-shapely .ensures (c .args .text .now) (c .args .level) refl) ∙ c .if-not-is-shapely .taken)
 
-pub returns-then-level-gt-DEEPEST : need.returns-then-level-gt-DEEPEST
-returns-then-level-gt-DEEPEST t c =
+pub returns-then-level-gt-LEVEL-LIMIT : need.returns-then-level-gt-LEVEL-LIMIT
+returns-then-level-gt-LEVEL-LIMIT t c =
     stops-deep _ _ _ _ _ (shown-from (c .args .text .now) (c .args .rows .now) (c .args .at) cleared (c .if-at-rows .left))
     (sym (c .is-shapely .ensures (c .args .text .now) (c .args .level) refl) ∙ c .if-not-is-shapely .left)
-    (c .if-level-gt-DEEPEST .taken)
+    (c .if-level-gt-LEVEL-LIMIT .taken)
 
 pub loop-position-holds : need.loop-position-holds
 loop-position-holds t c =
@@ -33,7 +33,7 @@ pub returns-in-Err : need.returns-in-Err
 returns-in-Err t c =
     stops-below _ _ _ _ _ (shown-from (c .args .text .now) (c .args .rows .now) (c .args .at) cleared (c .if-at-rows .left))
     (sym (c .is-shapely .ensures (c .args .text .now) (c .args .level) refl) ∙ c .if-not-is-shapely .left)
-    (c .if-level-gt-DEEPEST .left) _
+    (c .if-level-gt-LEVEL-LIMIT .left) _
     (walking-stops _ _ _ _ _ _ _ _ (c .loop-position .inv) (c .loop-position-test .taken) _ (c .in-Err .ensures tt))
 
 pub loop-position-again : need.loop-position-again
@@ -44,4 +44,4 @@ pub returns : need.returns
 returns t c =
     passes-all _ _ _ _ _ (shown-from (c .args .text .now) (c .args .rows .now) (c .args .at) cleared (c .if-at-rows .left))
     (sym (c .is-shapely .ensures (c .args .text .now) (c .args .level) refl) ∙ c .if-not-is-shapely .left)
-    (c .if-level-gt-DEEPEST .left) _ _ (c .loop-position .inv) (c .loop-position-test .left)
+    (c .if-level-gt-LEVEL-LIMIT .left) _ _ (c .loop-position .inv) (c .loop-position-test .left)

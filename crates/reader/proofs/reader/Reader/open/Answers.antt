@@ -13,4 +13,4 @@ ghost-self c = (omega (arith, c .add-child .ensures .depth), tt)
 
 pub returns : need.returns
 returns c =
-    open-after (c .args .self .now) (c .add-child .last .self) (c .add-child .ensures .depth) (c .add-child .ensures .after) (c .if-self-ge64 .left) (omega (arith, c .add-child .ensures .depth))
+    open-after (c .args .self .now) (c .add-child .last .self) (c .add-child .ensures .depth) (c .add-child .ensures .after) (c .if-self-ge-LEVEL-LIMIT .left) (omega (arith, c .add-child .ensures .depth))
