@@ -1,80 +1,48 @@
-// Reads a page listing from standard input, checks it, and prints it in the writer's form.
+// Reads a page listing from standard input, checks it, and prints it in the writer's form, after the cache
+// that the command line gives.
+mod given;
+mod print;
+
+use given::Wanted;
+use given::complete;
+use given::take_word;
+use names::Name;
+use options::CACHE_LIMIT;
+use options::ManglePropertyCache;
+use options::PLACE_LIMIT;
+use options::Places;
+use options::ReservedWords;
+use options::WORD_LIMIT;
 use pages::CLEARED;
 use pages::NODE_LIMIT;
-use pages::Refusal;
-use pages::Row;
 use pages::TEXT_LIMIT;
+use print::print_cache;
+use print::print_page;
+use print::refused;
 use reader::Size;
 use reader::read;
-use std::alloc::Global;
 use std::env;
 use std::error::AnyError;
 use std::io::Read;
-use std::io::Write;
-use writer::write;
-use writer::written_len;
+use table::Entry;
+use table::EntryClone;
+use table::Table;
 
 const HELP: &str =
     "shorten: reads a page listing from standard input, checks it, and prints it in the form of the writer.
 
-    shorten < PAGE      prints the page, or the line (refused NUMBER PLACE) and ends with status 1
-    shorten --help      prints this text
+    shorten [OPTION ...] < PAGE      prints the cache and the page; or the line (refused NUMBER PLACE), and ends with status 1
+    shorten --help                   prints this text
 
-Refusals: 1 misshapen (the node), 2 deep (the node), 3 unread (the byte), 9 overfull (0).
+    --pin NAME TARGET    the property NAME is to become TARGET
+    --keep NAME          the property NAME is to stay as it is
+    --reserve NAME       no property becomes NAME
+    --place N            the literal that starts at N is a key
+
+Options are taken in their order, before the page is read.
+Refusals: 1 misshapen (the node), 2 deep (the node), 3 unread (the byte), 4 long, 5 foreign, 6 bad pin, 9 overfull (0).
 docs/RULES.md says what a listing is, and when each refusal comes.
 ";
-
-// What the command line asks for.
-#[derive(Clone, Copy)]
-enum Task {
-    Help,
-    Page,
-}
-
-fn asked(rt: &LibcRuntime) -> Result<Task, AnyError> {
-    let mut task = Task::Page;
-    for argument in env::args(rt)?.skip(1) {
-        match argument.as_str() {
-            "--help" => task = Task::Help,
-            _ => {
-                eprintln!(
-                    rt,
-                    "shorten: unknown argument {argument}; shorten --help tells what there is"
-                )?;
-                return Err("unknown argument".into());
-            }
-        }
-    }
-    Ok(task)
-}
-
-// Prints why a page is refused; the error ends the program with status 1.
-fn refused(rt: &LibcRuntime, refusal: Refusal) -> Result<(), AnyError> {
-    let number = refusal.number();
-    let place = refusal.place();
-    println!(rt, "(refused {number} {place})")?;
-    Err("refused".into())
-}
-
-// Prints a page that was read.
-fn print_page<'p>(
-    rt: &LibcRuntime,
-    heap: Global,
-    rows: &'p [Row],
-    text: &'p [u8],
-) -> Result<(), AnyError> {
-    let len = match written_len(rows, text) {
-        Ok(len) => len,
-        Err(refusal) => return refused(rt, refusal),
-    };
-    let mut out = vec![in heap; 0u8; len]?;
-    match write(rows, text, out.as_mut_slice()) {
-        Ok(_) => {}
-        Err(refusal) => return refused(rt, refusal),
-    }
-    rt.stdout().write_all(out.as_slice())?;
-    Ok(())
-}
 
 fn page(rt: &LibcRuntime) -> Result<(), AnyError> {
     let heap = rt.alloc();
@@ -93,10 +61,66 @@ fn page(rt: &LibcRuntime) -> Result<(), AnyError> {
     }
 }
 
-fn main(rt: LibcRuntime) -> Result<(), AnyError> {
-    match asked(&rt)? {
-        Task::Help => rt.print(HELP)?,
-        Task::Page => page(&rt)?,
+// Takes the words of the command line, and prints the cache that they make; true where help was asked for.
+fn options_given(rt: &LibcRuntime) -> Result<bool, AnyError> {
+    let heap = rt.alloc();
+    let Some(nameless) = Name::new(b"") else {
+        return Ok(false);
+    };
+    let mut pins = vec![in heap; Entry {
+        key: nameless,
+        value: None
+    }; CACHE_LIMIT]?;
+    let mut words = vec![in heap; Entry {
+        key: nameless,
+        value: ()
+    }; WORD_LIMIT]?;
+    let mut starts = vec![in heap; Entry {
+        key: 0u32,
+        value: ()
+    }; PLACE_LIMIT]?;
+    let mut cache = ManglePropertyCache {
+        table: Table {
+            entries: pins.as_mut_slice(),
+            len: 0,
+        },
+    };
+    let mut reserved = ReservedWords {
+        table: Table {
+            entries: words.as_mut_slice(),
+            len: 0,
+        },
+    };
+    let mut places = Places {
+        table: Table {
+            entries: starts.as_mut_slice(),
+            len: 0,
+        },
+    };
+    let mut wanted = Wanted::Option;
+    for word in env::args(rt)?.skip(1) {
+        if word.as_str() == "--help" {
+            return Ok(true);
+        }
+        wanted = take_word(
+            rt,
+            heap,
+            wanted,
+            &mut cache,
+            &mut reserved,
+            &mut places,
+            word.as_str(),
+        )?;
     }
-    Ok(())
+    complete(rt, wanted)?;
+    print_cache(rt, heap, &cache)?;
+    Ok(false)
+}
+
+fn main(rt: LibcRuntime) -> Result<(), AnyError> {
+    if options_given(&rt)? {
+        rt.print(HELP)?;
+        return Ok(());
+    }
+    page(&rt)
 }

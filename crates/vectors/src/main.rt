@@ -3,12 +3,16 @@
 // and says that the listing, read into so many rows and bytes, gives the answer: a refusal's number and
 // place, or `read`, or `show`, and then the written form is printed. In a listing `~` and two hexadecimal
 // digits stand for a byte, and `{N:TEXT}` for the text N times.
+// A line `number|ANSWER|TEXT` or `name|ANSWER|TEXT` says what a text is.
 // Each answer that differs is printed, and then how many cases there were.
 mod cases;
+mod given;
 mod replay;
 mod shapes;
+mod words;
 
 use cases::expanded;
+use given::option_answers;
 use replay::replayed;
 use shapes::shape_answers;
 use std::alloc::Global;
@@ -16,6 +20,8 @@ use std::error::AnyError;
 use std::io::BufRead;
 use std::io::BufReader;
 use std::io::Write;
+use words::is_name;
+use words::is_number;
 
 // A line of the table, cut into its parts.
 #[derive(Clone, Copy)]
@@ -38,8 +44,26 @@ fn cut(line: &str) -> Option<Case> {
     })
 }
 
+// Whether a text is what its line says.
+fn text_holds(heap: Global, number: bool, line: &str) -> Result<bool, AnyError> {
+    let Some((answer, text)) = line.split_once('|') else {
+        return Ok(false);
+    };
+    let text = expanded(heap, text.as_bytes())?;
+    if number {
+        return Ok(is_number(answer, text.as_slice()));
+    }
+    Ok(is_name(answer, text.as_slice()))
+}
+
 // Whether a line's page gives its answer.
 fn holds(rt: &LibcRuntime, heap: Global, line: &str) -> Result<bool, AnyError> {
+    if let Some(rest) = line.strip_prefix("number|") {
+        return text_holds(heap, true, rest);
+    }
+    if let Some(rest) = line.strip_prefix("name|") {
+        return text_holds(heap, false, rest);
+    }
     let Some(case) = cut(line) else {
         return Ok(false);
     };
@@ -64,6 +88,7 @@ fn main(rt: LibcRuntime) -> Result<(), AnyError> {
             println!(rt, "line {number} of the table does not hold")?;
         }
     }
-    println!(rt, "{number} listings, {wrong} wrong")?;
-    shape_answers(&rt, heap)
+    println!(rt, "{number} lines, {wrong} wrong")?;
+    shape_answers(&rt, heap)?;
+    option_answers(&rt, heap)
 }

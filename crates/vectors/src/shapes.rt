@@ -61,7 +61,11 @@ fn wrapped(heap: Global, wrappers: usize, rows: &[Row]) -> Result<String, AllocE
 }
 
 // Prints an answer beside what it is the answer to.
-fn tell(rt: &LibcRuntime, what: &str, answer: Result<String, AllocError>) -> Result<(), AnyError> {
+pub fn tell(
+    rt: &LibcRuntime,
+    what: &str,
+    answer: Result<String, AllocError>,
+) -> Result<(), AnyError> {
     let answer = answer?;
     rt.print(what)?;
     rt.print(": ")?;

@@ -1,0 +1,4 @@
+pub mod Identifiers
+pub mod Names
+pub mod Order
+pub mod Texts

@@ -1,0 +1,12 @@
+// An ordered map over memory that the caller lends.
+mod key;
+mod search;
+mod shift;
+mod table;
+
+pub use crate::key::Key;
+pub use crate::key::NumberKey;
+pub use crate::table::Entry;
+pub use crate::table::EntryClone;
+pub use crate::table::Full;
+pub use crate::table::Table;
