@@ -21,6 +21,7 @@ use print::print_page;
 use print::refused;
 use reader::Size;
 use reader::read;
+use std::alloc::Global;
 use std::env;
 use std::error::AnyError;
 use std::io::Read;
@@ -44,28 +45,36 @@ Refusals: 1 misshapen (the node), 2 deep (the node), 3 unread (the byte), 4 long
 docs/RULES.md says what a listing is, and when each refusal comes.
 ";
 
-fn page(rt: &LibcRuntime) -> Result<(), AnyError> {
-    let heap = rt.alloc();
+// Reads the page, and prints the cache and then the page; of a refused page only the refusal.
+fn page(rt: &LibcRuntime, heap: Global, cache: &ManglePropertyCache) -> Result<(), AnyError> {
     let mut listing = Vec::new(heap);
     rt.stdin().read_to_end(&mut listing)?;
     let mut rows = vec![in heap; CLEARED; NODE_LIMIT]?;
     let mut text = vec![in heap; 0u8; TEXT_LIMIT]?;
     match read(listing.as_slice(), rows.as_mut_slice(), text.as_mut_slice()) {
         Err(refusal) => refused(rt, refusal),
-        Ok(Size { nodes, bytes }) => print_page(
-            rt,
-            heap,
-            &rows.as_slice()[0..nodes],
-            &text.as_slice()[0..bytes],
-        ),
+        Ok(Size { nodes, bytes }) => {
+            print_cache(rt, heap, cache)?;
+            print_page(
+                rt,
+                heap,
+                &rows.as_slice()[0..nodes],
+                &text.as_slice()[0..bytes],
+            )
+        }
     }
 }
 
-// Takes the words of the command line, and prints the cache that they make; true where help was asked for.
-fn options_given(rt: &LibcRuntime) -> Result<bool, AnyError> {
+fn help(rt: &LibcRuntime) -> Result<(), AnyError> {
+    rt.print(HELP)?;
+    Ok(())
+}
+
+// Takes the words of the command line, and then the page.
+fn run(rt: &LibcRuntime) -> Result<(), AnyError> {
     let heap = rt.alloc();
     let Some(nameless) = Name::new(b"") else {
-        return Ok(false);
+        return Ok(());
     };
     let mut pins = vec![in heap; Entry {
         key: nameless,
@@ -100,7 +109,7 @@ fn options_given(rt: &LibcRuntime) -> Result<bool, AnyError> {
     let mut wanted = Wanted::Option;
     for word in env::args(rt)?.skip(1) {
         if word.as_str() == "--help" {
-            return Ok(true);
+            return help(rt);
         }
         wanted = take_word(
             rt,
@@ -113,14 +122,9 @@ fn options_given(rt: &LibcRuntime) -> Result<bool, AnyError> {
         )?;
     }
     complete(rt, wanted)?;
-    print_cache(rt, heap, &cache)?;
-    Ok(false)
+    page(rt, heap, &cache)
 }
 
 fn main(rt: LibcRuntime) -> Result<(), AnyError> {
-    if options_given(&rt)? {
-        rt.print(HELP)?;
-        return Ok(());
-    }
-    page(&rt)
+    run(&rt)
 }
