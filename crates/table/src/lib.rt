@@ -1,6 +1,6 @@
 // An ordered map over memory that the caller lends.
+mod finding;
 mod key;
-mod search;
 mod shift;
 mod table;
 

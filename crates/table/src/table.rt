@@ -6,8 +6,8 @@ ghost use Rattle.std.specs.Finite.{nth};
 ghost use Rattle.table.specs.Calls.{Answered, Grows};
 ghost use Rattle.table.specs.Maps.{lookup};
 ghost use Rattle.table.specs.Rows.{cleared, memory, rows, Same-memory, Sound};
+use crate::finding::seek;
 use crate::key::Key;
-use crate::search::seek;
 use crate::shift::put_in;
 
 // A key with its value.

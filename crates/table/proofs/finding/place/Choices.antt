@@ -2,7 +2,7 @@ use Prim.Native.Nat.{_-_, _≤_}
 use lib.ListN.{length}
 use Rattle.table.specs.Maps.{Ascending}
 use Rattle.table.specs.Search.{Below, Above}
-use Rattle.table.proofs.search.place.Given as given
+use Rattle.table.proofs.finding.place.Given as given
 
 -- What is passed on the left is before the key, and what is passed on the right is not.
 abbrev pub Inv-loop-low : given.InvT-loop-low

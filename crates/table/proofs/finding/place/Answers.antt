@@ -3,8 +3,8 @@ use mathlib.Core.Path.{sym, _∙_}
 use Prim.Native.Nat.{_+_, _-_, _/_}
 use native.Mathlib.Omega.{arith}
 use Rattle.table.proofs.Places.{Order, below-more, above-more}
-use Rattle.table.proofs.search.place.Given as given
-use Rattle.table.proofs.search.place.Needs as need
+use Rattle.table.proofs.finding.place.Given as given
+use Rattle.table.proofs.finding.place.Needs as need
 
 laws : (g : given.Over) → Order (g .K·Key .less)
 laws g = record { irreflexive = g .K·Key·met .irreflexive; transitive = g .K·Key·met .transitive; comparable = g .K·Key·met .comparable }
