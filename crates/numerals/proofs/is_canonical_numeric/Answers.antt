@@ -8,8 +8,8 @@ returns-in-Short c =
 
 pub returns-in-Other : goal.returns-in-Other
 returns-in-Other c =
-    record { exactly = other_canonical c.args.text.now _ c.in-Other.ensures c.is-special.ensures; unique = one_number c.args.text.now }
+    record { exactly = other_canonical c.args.text.now _ c.in-Other.ensures c.is_special.ensures; unique = one_number c.args.text.now }
 
 pub returns-in-Long : goal.returns-in-Long
 returns-in-Long c =
-    record { exactly = long_canonical c.args.text.now _ c.in-Long.ensures c.is-special-in-Long.ensures; unique = one_number c.args.text.now }
+    record { exactly = long_canonical c.args.text.now _ c.in-Long.ensures c.is_special-in-Long.ensures; unique = one_number c.args.text.now }

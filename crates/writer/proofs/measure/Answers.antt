@@ -6,13 +6,13 @@ use Rattle.writer.proofs.measure.Goals as goal
 pub returns-in-Err : goal.returns-in-Err
 returns-in-Err c = measured_unlawful _ _ _ c.in-Err.ensures
 
-pub returns-then-rows-gt-NODE-LIMIT : goal.returns-then-rows-gt-NODE-LIMIT
-returns-then-rows-gt-NODE-LIMIT c =
+pub returns-then-rows-gt-NODE_LIMIT : goal.returns-then-rows-gt-NODE_LIMIT
+returns-then-rows-gt-NODE_LIMIT c =
     measured_overfull c.in-Ok.ensures
-    (λ h. ⊎_elim (λ a. omega (arith, h.rows_limit)) (λ b. omega (arith, h.text_limit)) c.then-rows-gt-NODE-LIMIT.either)
+    (λ h. ⊎_elim (λ a. omega (arith, h.rows_limit)) (λ b. omega (arith, h.text_limit)) c.then-rows-gt-NODE_LIMIT.either)
 
-pub put-listing-requires : goal.put-listing-requires
-put-listing-requires c = page_stands (checked_page _ c.in-Ok.ensures)
+pub put_listing-requires : goal.put_listing-requires
+put_listing-requires c = page_stands (checked_page _ c.in-Ok.ensures)
 
 pub returns-in-None : goal.returns-in-None
 returns-in-None c =
@@ -21,5 +21,5 @@ returns-in-None c =
 
 pub returns-in-Some : goal.returns-in-Some
 returns-in-Some c =
-    measured_listed c.in-Ok.ensures _ _ c.in-Some.len c.if-rows-gt-NODE-LIMIT.false c.if-text-gt-TEXT-LIMIT.false
+    measured_listed c.in-Ok.ensures _ _ c.in-Some.len c.if-rows-gt-NODE_LIMIT.false c.if-text-gt-TEXT_LIMIT.false
     (c.in-Some.ensures (page_stands (checked_page _ c.in-Ok.ensures)))

@@ -4,7 +4,7 @@ use Rattle.writer.proofs.put_listing.Goals as goal
 
 pub returns-in-err-end : goal.returns-in-err-end
 returns-in-err-end c =
-    λ s. lists_full (tree s.label s.forest) c.args.out.now c.args.room c.put-form.new.out c.from-residual.ensures (c.in-err-end.ensures s)
+    λ s. lists_full (tree s.label s.forest) c.args.out.now c.args.room c.put_form.new.out c.from-residual.ensures (c.in-err-end.ensures s)
 
 pub returns : goal.returns
 returns c =

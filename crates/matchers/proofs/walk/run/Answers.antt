@@ -7,7 +7,7 @@ pub returns : goal.returns
 returns c =
     record {
       answer =
-          c.is-all-runs.ensures ∙ sym (walk_ends c.args.pattern.now c.args.name.now c.loop-walk.walk c.loop-walk.invariant.0 c.loop-walk-test.false);
+          c.is_all_runs.ensures ∙ sym (walk_ends c.args.pattern.now c.args.name.now c.loop-walk.walk c.loop-walk.invariant.0 c.loop-walk-test.false);
       bound =
           let b = most_bound (length c.args.name.now) (length c.args.pattern.now) in
           let i = c.loop-walk.invariant.1 in

@@ -3,12 +3,12 @@ use Rattle.std.proofs.lemmas.Bool.{eqb-true, eqb-false}
 use Rattle.numerals.proofs.Runs.{begins_at, begins_none}
 use Rattle.numerals.proofs.digits.begins_well.Goals as goal
 
-pub returns-then-not-is-empty : goal.returns-then-not-is-empty
-returns-then-not-is-empty c =
-    let some : 0 < length c.args.digits.now = omega (arith, eqb-false (length c.args.digits.now) 0 (sym c.if-not-is-empty.ensures)) in
+pub returns-then-not-is_empty : goal.returns-then-not-is_empty
+returns-then-not-is_empty c =
+    let some : 0 < length c.args.digits.now = omega (arith, eqb-false (length c.args.digits.now) 0 (sym c.if-not-is_empty.ensures)) in
     begins_at c.args.digits.now some
 
-pub returns-else-not-is-empty : goal.returns-else-not-is-empty
-returns-else-not-is-empty c =
-    ap not c.if-not-is-empty.false
-    ∙ sym (begins_none c.args.digits.now (eqb-true (length c.args.digits.now) 0 (sym c.if-not-is-empty.ensures)))
+pub returns-else-not-is_empty : goal.returns-else-not-is_empty
+returns-else-not-is_empty c =
+    ap not c.if-not-is_empty.false
+    ∙ sym (begins_none c.args.digits.now (eqb-true (length c.args.digits.now) 0 (sym c.if-not-is_empty.ensures)))

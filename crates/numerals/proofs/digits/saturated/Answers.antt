@@ -1,8 +1,8 @@
 use Rattle.numerals.proofs.Runs.{front_bounds, saturated_more, saturated_all}
 use Rattle.numerals.proofs.digits.saturated.Goals as goal
 
-pub overflow-sub-b : goal.overflow-sub-b
-overflow-sub-b c = (front_bounds c.args.digits.now c.loop-b.b-index c.loop-b-test.true c.requires).0
+pub overflow_sub-b : goal.overflow_sub-b
+overflow_sub-b c = (front_bounds c.args.digits.now c.loop-b.b-index c.loop-b-test.true c.requires).0
 
 pub loop-b-preserved : goal.loop-b-preserved
 loop-b-preserved c =

@@ -9,16 +9,16 @@ returns-then-at-rows t c =
     omega (arith, length_shown c.args.text.now c.args.rows.now) in
     stops_at_end (shown c.args.text.now c.args.rows.now) c.args.place c.args.level c.args.at h
 
-pub returns-then-not-is-shapely : goal.returns-then-not-is-shapely
-returns-then-not-is-shapely t c =
+pub returns-then-not-is_shapely : goal.returns-then-not-is_shapely
+returns-then-not-is_shapely t c =
     stops_misshapen _ _ _ _ _ (shown_from c.args.text.now c.args.rows.now c.args.at cleared c.if-at-rows.false)
-    (sym (c.is-shapely.ensures c.args.text.now c.args.level refl) ∙ c.if-not-is-shapely.true)
+    (sym (c.is_shapely.ensures c.args.text.now c.args.level refl) ∙ c.if-not-is_shapely.true)
 
-pub returns-then-level-gt-LEVEL-LIMIT : goal.returns-then-level-gt-LEVEL-LIMIT
-returns-then-level-gt-LEVEL-LIMIT t c =
+pub returns-then-level-gt-LEVEL_LIMIT : goal.returns-then-level-gt-LEVEL_LIMIT
+returns-then-level-gt-LEVEL_LIMIT t c =
     stops_deep _ _ _ _ _ (shown_from c.args.text.now c.args.rows.now c.args.at cleared c.if-at-rows.false)
-    (sym (c.is-shapely.ensures c.args.text.now c.args.level refl) ∙ c.if-not-is-shapely.false)
-    c.if-level-gt-LEVEL-LIMIT.true
+    (sym (c.is_shapely.ensures c.args.text.now c.args.level refl) ∙ c.if-not-is_shapely.false)
+    c.if-level-gt-LEVEL_LIMIT.true
 
 pub loop-position-init : goal.loop-position-init
 loop-position-init t c =
@@ -29,8 +29,8 @@ loop-position-init t c =
 pub returns-in-Err : goal.returns-in-Err
 returns-in-Err t c =
     stops_below _ _ _ _ _ (shown_from c.args.text.now c.args.rows.now c.args.at cleared c.if-at-rows.false)
-    (sym (c.is-shapely.ensures c.args.text.now c.args.level refl) ∙ c.if-not-is-shapely.false)
-    c.if-level-gt-LEVEL-LIMIT.false _
+    (sym (c.is_shapely.ensures c.args.text.now c.args.level refl) ∙ c.if-not-is_shapely.false)
+    c.if-level-gt-LEVEL_LIMIT.false _
     (walking_stops _ _ _ _ _ _ _ _ c.loop-position.invariant c.loop-position-test.true _ c.in-Err.ensures)
 
 pub loop-position-preserved : goal.loop-position-preserved
@@ -40,5 +40,5 @@ loop-position-preserved t c =
 pub returns : goal.returns
 returns t c =
     passes_all _ _ _ _ _ (shown_from c.args.text.now c.args.rows.now c.args.at cleared c.if-at-rows.false)
-    (sym (c.is-shapely.ensures c.args.text.now c.args.level refl) ∙ c.if-not-is-shapely.false)
-    c.if-level-gt-LEVEL-LIMIT.false _ _ c.loop-position.invariant c.loop-position-test.false
+    (sym (c.is_shapely.ensures c.args.text.now c.args.level refl) ∙ c.if-not-is_shapely.false)
+    c.if-level-gt-LEVEL_LIMIT.false _ _ c.loop-position.invariant c.loop-position-test.false

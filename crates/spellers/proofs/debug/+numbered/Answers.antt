@@ -5,13 +5,13 @@ use Rattle.spellers.proofs.debug.+numbered.Goals as goal
 
 pub returns-then-n-lt10 : goal.returns-then-n-lt10
 returns-then-n-lt10 t c =
-    c.followed-by.ensures ∙ number_of_one_digit (bytes_of c.args.name) c.args.n (omega arith) c.if-n-lt10.true
+    c.followed_by.ensures ∙ number_of_one_digit (bytes_of c.args.name) c.args.n (omega arith) c.if-n-lt10.true
 
-pub returns-in-default : goal.returns-in-default
-returns-in-default t c =
-    no_room_for_digits (bytes_of c.args.name) c.args.n (omega arith) c.if-n-lt10.false (sym c.in-default.ensures)
+pub returns-in_default : goal.returns-in_default
+returns-in_default t c =
+    no_room_for_digits (bytes_of c.args.name) c.args.n (omega arith) c.if-n-lt10.false (sym c.in_default.ensures)
 
 pub returns : goal.returns
 returns t c =
-    c.followed-by-2.ensures
+    c.followed_by-2.ensures
     ∙ number_of_more_digits (bytes_of c.args.name) c.args.n (omega arith) c.if-n-lt10.false c.in-Some.front (sym c.in-Some.ensures)

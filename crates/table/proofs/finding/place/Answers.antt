@@ -7,13 +7,13 @@ use Rattle.table.proofs.finding.place.Goals as goal
 laws : (g : given.Over) → Order g.K.Key.less
 laws g = record { irreflexive = g.met.K.Key.irreflexive; transitive = g.met.K.Key.transitive; comparable = g.met.K.Key.comparable }
 
-pub loop-low-preserved-then-is-before : goal.loop-low-preserved-then-is-before
-loop-low-preserved-then-is-before g c = (
+pub loop-low-preserved-then-is_before : goal.loop-low-preserved-then-is_before
+loop-low-preserved-then-is_before g c = (
   omega arith,
   omega arith,
   λ up. (
     below_more g.K.Key.less (laws g) c.args.key.now c.args.rows.now _ c.index-rows-middle.result c.index-rows-middle.is (omega arith) up
-        (sym c.is-before.ensures ∙ c.if-is-before.true),
+        (sym c.is_before.ensures ∙ c.if-is_before.true),
     (c.loop-low.invariant.2 up).1,
   ),
 )
@@ -25,6 +25,6 @@ loop-low-preserved g c = (
   λ up. (
     (c.loop-low.invariant.2 up).0,
     above_more g.K.Key.less (laws g) c.args.key.now c.args.rows.now _ c.index-rows-middle.result c.index-rows-middle.is (omega arith) up
-        (sym c.is-before.ensures ∙ c.if-is-before.false),
+        (sym c.is_before.ensures ∙ c.if-is_before.false),
   ),
 )

@@ -11,17 +11,17 @@ use Rattle.tally.proofs.merging.merge.Goals as goal
 laws : (g : given.Over) → Order g.K.Key.less
 laws g = record { irreflexive = g.met.K.Key.irreflexive; transitive = g.met.K.Key.transitive; comparable = g.met.K.Key.comparable }
 
-pub returns-then-not-has-room : goal.returns-then-not-has-room
-returns-then-not-has-room g c =
+pub returns-then-not-has_room : goal.returns-then-not-has_room
+returns-then-not-has_room g c =
     record {
       lent = record { lent = refl; room = refl; past = refl };
       grows = omega arith;
       kept = refl;
       merges = λ s t.
           overfull g.K.Key.less (laws g) g.V.Sum.sum c.args.limit c.args.table.now c.args.other.now s t
-          (same_test c.len.result _ c.new_keys.result _ c.min-room.result _ c.has-room.result _ c.len.ensures
+          (same_test c.len.result _ c.new_keys.result _ c.min-room.result _ c.has_room.result _ c.len.ensures
           (c.new_keys.ensures s ∙ ap (λ es. new_keys g.K.Key.less (rows c.args.table.now) es) c.rows-rows.ensures)
-          c.min-room.ensures c.has-room.ensures c.if-not-has-room.true);
+          c.min-room.ensures c.has_room.ensures c.if-not-has_room.true);
       only = only g.K.Key.less (laws g) g.V.Sum.sum;
       any_order = any_order g.V.Sum.sum g.met.V.Sum.commutes g.met.V.Sum.associates;
     }
@@ -40,8 +40,8 @@ loop-row-preserved g c = (
   λ s up.
       merge_turn g.K.Key.less (laws g) g.V.Sum.sum c.args.limit c.args.table.now c.loop-row.table c.rows-rows.result.now c.loop-row.row-index
       c.row-item.result c.row-item.is (omega arith) up c.loop-row.invariant.0 (c.loop-row.invariant.2 s up).0
-      (same_test c.len.result _ c.new_keys.result _ c.min-room.result _ c.has-room.result _ c.len.ensures (c.new_keys.ensures s) c.min-room.ensures
-      c.has-room.ensures c.if-not-has-room.false)
+      (same_test c.len.result _ c.new_keys.result _ c.min-room.result _ c.has_room.result _ c.len.ensures (c.new_keys.ensures s) c.min-room.ensures
+      c.has_room.ensures c.if-not-has_room.false)
       (c.loop-row.invariant.2 s up).1 c.add.new.table c.add.result (c.add.ensures.adds (c.loop-row.invariant.2 s up).0),
 )
 
@@ -54,8 +54,8 @@ returns g c =
       merges = λ s t.
           joined g.K.Key.less (laws g) g.V.Sum.sum c.args.limit c.args.table.now c.args.other.now c.loop-row.table c.rows-rows.result.now c.loop-row.row-index
           c.rows-rows.ensures (omega arith)
-          (same_test c.len.result _ c.new_keys.result _ c.min-room.result _ c.has-room.result _ c.len.ensures (c.new_keys.ensures s) c.min-room.ensures
-          c.has-room.ensures c.if-not-has-room.false)
+          (same_test c.len.result _ c.new_keys.result _ c.min-room.result _ c.has_room.result _ c.len.ensures (c.new_keys.ensures s) c.min-room.ensures
+          c.has_room.ensures c.if-not-has_room.false)
           (c.loop-row.invariant.2 s (subst (λ es. Ascending g.K.Key.less es) (sym c.rows-rows.ensures) t.ascending));
       only = only g.K.Key.less (laws g) g.V.Sum.sum;
       any_order = any_order g.V.Sum.sum g.met.V.Sum.commutes g.met.V.Sum.associates;

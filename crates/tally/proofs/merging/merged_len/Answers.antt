@@ -11,7 +11,7 @@ laws g = record { irreflexive = g.met.K.Key.irreflexive; transitive = g.met.K.Ke
 
 pub returns : goal.returns
 returns g c s t =
-    needs_of g.K.Key.less (laws g) g.V.Sum.sum c.args.table.now c.args.other.now c.saturating-add.result s t
-    (c.saturating-add.ensures
+    needs_of g.K.Key.less (laws g) g.V.Sum.sum c.args.table.now c.args.other.now c.saturating_add.result s t
+    (c.saturating_add.ensures
     ∙ same_count c.len.result _ c.new_keys.result _ 18446744073709551615 c.len.ensures
     (c.new_keys.ensures s ∙ ap (λ es. new_keys g.K.Key.less (rows c.args.table.now) es) c.rows.ensures))

@@ -3,27 +3,27 @@ use Rattle.std.proofs.Common.{◌<◌, length, rules}
 use Rattle.writer.proofs.Walking.{stands_within, stands_shallow, text_within, brood, next_turn, brood_past, brood_small, brood_wrote, no_opening, no_marks, no_children, no_bracket, formed, forms_full, small_text}
 use Rattle.writer.proofs.form.+put_form.Goals as goal
 
-pub offset-bounds-rows-at : goal.offset-bounds-rows-at
-offset-bounds-rows-at t c = let h : c.args.at.row < length c.args.rows.now = stands_within c.requires in search rules
+pub offset_bounds-rows-at : goal.offset_bounds-rows-at
+offset_bounds-rows-at t c = let h : c.args.at.row < length c.args.rows.now = stands_within c.requires in search rules
 
 pub bounds-rows-at : goal.bounds-rows-at
 bounds-rows-at t c = stands_within c.requires
 
-pub put-marks-requires : goal.put-marks-requires
-put-marks-requires t c = text_within c.requires
+pub put_marks-requires : goal.put_marks-requires
+put_marks-requires t c = text_within c.requires
 
 pub returns-in-err-opened : goal.returns-in-err-opened
 returns-in-err-opened t c =
-    λ s. forms_full s c.args.out.now c.args.at c.args.room c.put-opening.new.out c.from-residual.ensures
+    λ s. forms_full s c.args.out.now c.args.at c.args.room c.put_opening.new.out c.from-residual.ensures
     (no_opening s _ _ c.in-err-opened.ensures.puts)
 
 pub returns-in-err-byte : goal.returns-in-err-byte
 returns-in-err-byte t c =
-    λ s. forms_full s c.args.out.now c.args.at c.args.room c.put-marks.new.out c.from-residual-in-err-byte.ensures
+    λ s. forms_full s c.args.out.now c.args.at c.args.room c.put_marks.new.out c.from-residual-in-err-byte.ensures
     (no_marks s c.in-ok-opened.ensures.puts c.in-err-byte.ensures)
 
-pub overflow-add-next : goal.overflow-add-next
-overflow-add-next t c = let h : c.args.at.row < length c.args.rows.now = stands_within c.requires in search rules
+pub overflow_add-next : goal.overflow_add-next
+overflow_add-next t c = let h : c.args.at.row < length c.args.rows.now = stands_within c.requires in search rules
 
 pub returns-in-err-line : goal.returns-in-err-line
 returns-in-err-line t c =
@@ -31,18 +31,18 @@ returns-in-err-line t c =
     (no_children s c.in-ok-opened.ensures.puts c.in-ok-byte.ensures
     ((next_turn (brood s) (c.loop.invariant (brood s)) c.loop-test.true).no_line c.in-err-line.ensures))
 
-pub overflow-add-indent : goal.overflow-add-indent
-overflow-add-indent t c = let h : c.args.indent < 64 = stands_shallow c.requires in search rules
+pub overflow_add-indent : goal.overflow_add-indent
+overflow_add-indent t c = let h : c.args.indent < 64 = stands_shallow c.requires in search rules
 
-pub put-form-requires : goal.put-form-requires
-put-form-requires t c =
+pub put_form-requires : goal.put_form-requires
+put_form-requires t c =
     let h : c.args.indent < 64 = stands_shallow c.requires in
     (search rules, (next_turn (brood c.requires) (c.loop.invariant (brood c.requires)) c.loop-test.true).child)
 
 pub returns-in-err-end : goal.returns-in-err-end
 returns-in-err-end t c =
     λ s. let n = next_turn (brood s) (c.loop.invariant (brood s)) c.loop-test.true in
-    forms_full s c.args.out.now c.args.at c.args.room c.put-form.new.out c.from-residual-in-err-end.ensures
+    forms_full s c.args.out.now c.args.at c.args.room c.put_form.new.out c.from-residual-in-err-end.ensures
     (no_children s c.in-ok-opened.ensures.puts c.in-ok-byte.ensures (n.no_child c.in-ok-line.ensures (c.in-err-end.ensures n.child)))
 
 pub loop-preserved : goal.loop-preserved
@@ -58,7 +58,7 @@ returns-in-err-closed t c =
 pub returns : goal.returns
 returns t c =
     λ s. formed s c.in-ok-opened.ensures.puts c.in-ok-byte.ensures (brood_wrote (brood s) (c.loop.invariant (brood s)) c.loop-test.false)
-    (c.put-opening.ensures.fits, small_text c.args.text.now c.type-inv.text _)
+    (c.put_opening.ensures.fits, small_text c.args.text.now c.type-inv.text _)
     (brood_small (brood s) (c.loop.invariant (brood s)) c.loop-test.false)
     (brood_past (brood s) (c.loop.invariant (brood s)) c.loop-test.false)
     c.in-ok-closed.ensures

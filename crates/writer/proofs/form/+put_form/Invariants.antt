@@ -3,8 +3,8 @@ use Rattle.std.proofs.Common.{◌-◌}
 use Rattle.writer.proofs.Walking.{Brood, Turn}
 use Rattle.writer.proofs.form.+put_form.Given as goal
 
-abbrev pub decreases-put-form : goal.decreases-put-form
-decreases-put-form l = 64 - l.indent
+abbrev pub decreases-put_form : goal.decreases-put_form
+decreases-put_form l = 64 - l.indent
 
 abbrev pub invariant-loop : goal.invariant-loop
 invariant-loop l =

@@ -36,8 +36,8 @@ returns-in-err-named c =
 pub returns : goal.returns
 returns c =
     record {
-      puts = puts_after _ _ c.put-start.result c.in-ok-indented.ensures
-          (puts_after _ _ c.put-start.result c.in-ok-opened.ensures
-          (puts_after _ _ c.put-start.result c.in-ok-named.ensures c.put-start.ensures));
+      puts = puts_after _ _ c.put_start.result c.in-ok-indented.ensures
+          (puts_after _ _ c.put_start.result c.in-ok-opened.ensures
+          (puts_after _ _ c.put_start.result c.in-ok-named.ensures c.put_start.ensures));
       fits = search rules;
     }

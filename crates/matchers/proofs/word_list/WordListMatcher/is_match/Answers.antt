@@ -2,16 +2,16 @@ use Rattle.std.proofs.Common.{sym, ◌∙◌}
 use Rattle.matchers.proofs.Listing.{listed_decides, listed_here, listed_later, listed_nowhere}
 use Rattle.matchers.proofs.word_list.WordListMatcher.is_match.Goals as goal
 
-pub returns-then-is-word : goal.returns-then-is-word
-returns-then-is-word c =
+pub returns-then-is_word : goal.returns-then-is_word
+returns-then-is_word c =
     record {
-      answer = sym (c.loop-word.invariant ∙ listed_here c.args.self.now.words.now c.args.name.now c.loop-word.word-index _ c.loop-word-test.true c.if-is-word.ensures);
+      answer = sym (c.loop-word.invariant ∙ listed_here c.args.self.now.words.now c.args.name.now c.loop-word.word-index _ c.loop-word-test.true c.if-is_word.ensures);
       means = listed_decides c.args.self.now.words.now;
     }
 
 pub loop-word-preserved : goal.loop-word-preserved
 loop-word-preserved c =
-    c.loop-word.invariant ∙ listed_later c.args.self.now.words.now c.args.name.now c.loop-word.word-index _ c.loop-word-test.true c.if-is-word.ensures
+    c.loop-word.invariant ∙ listed_later c.args.self.now.words.now c.args.name.now c.loop-word.word-index _ c.loop-word-test.true c.if-is_word.ensures
 
 pub returns : goal.returns
 returns c =

@@ -12,6 +12,6 @@ returns-then-text-start c =
 pub returns : goal.returns
 returns c =
     let h : length c.args.self.now.bytes ≡ 255 = omega arith in
-    let long : length c.as-bytes.result.now ≡ c.from-start.result = ap length c.as-bytes.ensures ∙ omega (arith, c.from-start.ensures, length-take c.args.self.now.len c.args.self.now.bytes) in
-    followed_is_made c.as-bytes.result.now c.args.text.now c.put-first.new.bytes c.put-first-2.new.bytes c.from-start.result long (omega arith) c.put-first.ensures c.put-first-2.ensures
-    ∙ ap (λ front. made_of (front ++ c.args.text.now)) c.as-bytes.ensures
+    let long : length c.as_bytes.result.now ≡ c.from-start.result = ap length c.as_bytes.ensures ∙ omega (arith, c.from-start.ensures, length-take c.args.self.now.len c.args.self.now.bytes) in
+    followed_is_made c.as_bytes.result.now c.args.text.now c.put_first.new.bytes c.put_first-2.new.bytes c.from-start.result long (omega arith) c.put_first.ensures c.put_first-2.ensures
+    ∙ ap (λ front. made_of (front ++ c.args.text.now)) c.as_bytes.ensures

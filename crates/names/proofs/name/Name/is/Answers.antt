@@ -5,5 +5,5 @@ use Rattle.std.proofs.lemmas.Bool.Decides.{Decides-eqb}
 
 pub returns : goal.returns
 returns c =
-    subst (λ bytes. Decides c.eq.result (bytes ≡ c.args.text.now)) c.as-bytes.ensures
-    (slice_eq-Decides Decides-eqb c.as-bytes.result.now c.args.text.now c.eq.result c.eq.ensures)
+    subst (λ bytes. Decides c.eq.result (bytes ≡ c.args.text.now)) c.as_bytes.ensures
+    (slice_eq-Decides Decides-eqb c.as_bytes.result.now c.args.text.now c.eq.result c.eq.ensures)

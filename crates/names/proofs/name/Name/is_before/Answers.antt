@@ -8,7 +8,7 @@ pub returns : goal.returns
 returns c =
     record {
       answer =
-          less_from_lex c.as-bytes.result.now c.as-bytes-2.result.now c.lt.result c.lt.ensures
-          ∙ (λ k. less (c.as-bytes.ensures k) (c.as-bytes-2.ensures k));
+          less_from_lex c.as_bytes.result.now c.as_bytes-2.result.now c.lt.result c.lt.ensures
+          ∙ (λ k. less (c.as_bytes.ensures k) (c.as_bytes-2.ensures k));
       total = less_total;
     }

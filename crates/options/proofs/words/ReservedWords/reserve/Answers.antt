@@ -12,7 +12,7 @@ returns c =
       refused = c.give.ensures.refused;
       gives = λ s.
           gives_given less 1024 (name_fault c.args.word.now)
-          (no_fault c.args.word.now (made_not_long c.args.word.now c.in-Some.key n) (sym c.is-foreign.ensures ∙ c.if-is-foreign.false))
+          (no_fault c.args.word.now (made_not_long c.args.word.now c.in-Some.key n) (sym c.is_foreign.ensures ∙ c.if-is_foreign.false))
           c.in-Some.key (name_of c.args.word.now) (made_is c.args.word.now c.in-Some.key n)
           tt tt refl
           c.args.self.now.table _ _ (c.give.ensures.gives s);

@@ -18,6 +18,6 @@ returns c =
       | then-depth-eq0 w ↦ ap phase_of w.self-is ∙ phase_outside (r.depth - 1) r.stack w.if-depth-eq0.true
       | else-depth-eq0 w ↦ ap phase_of w.self-is ∙ phase_inside (r.depth - 1) r.stack w.if-depth-eq0.false
     ] in
-    ap (λ p. closed p c.fault-after-fault.result) phase
-    ∙ (ap (closed (phase_in around)) c.fault-after-fault.ensures
+    ap (λ p. closed p c.fault_after-fault.result) phase
+    ∙ (ap (closed (phase_in around)) c.fault_after-fault.ensures
     ∙ sym (ap (λ s. close_bracket s (view r)) (unwound_pop r.depth r.stack (omega (arith, c.if-self-eq0.false)))))

@@ -10,7 +10,7 @@ returns-in-Some c =
     let v = view c.args.self.now in
     let e : kind_named (letters_of w) ≡ Some c.in-Some.kind =
     ap kind_named (sym (letters_within w.letters w.len c.min-len.result (omega arith) c.min-len.ensures)) ∙ (sym c.named.ensures ∙ c.in-Some.is) in
-    c.go.ensures ∙ (ap (on_to named) c.set-kind.ensures ∙ sym (ap (λ k. on_name k v) e))
+    c.go.ensures ∙ (ap (on_to named) c.set_kind.ensures ∙ sym (ap (λ k. on_name k v) e))
 
 pub returns-in-None : goal.returns-in-None
 returns-in-None c =

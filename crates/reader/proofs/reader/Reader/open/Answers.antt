@@ -3,11 +3,11 @@ use Rattle.reader.proofs.Moves.{open_after}
 use Rattle.reader.proofs.reader.Reader.open.Goals as goal
 
 pub bounds-self-self : goal.bounds-self-self
-bounds-self-self c = omega (arith, c.add-child.ensures.depth)
+bounds-self-self c = omega (arith, c.add_child.ensures.depth)
 
-pub invariant-of-self : goal.invariant-of-self
-invariant-of-self c = (omega (arith, c.add-child.ensures.depth), tt)
+pub invariant_of-self : goal.invariant_of-self
+invariant_of-self c = (omega (arith, c.add_child.ensures.depth), tt)
 
 pub returns : goal.returns
 returns c =
-    open_after c.args.self.now c.add-child.new.self c.add-child.ensures.depth c.add-child.ensures.after c.if-self-ge-LEVEL-LIMIT.false (omega (arith, c.add-child.ensures.depth))
+    open_after c.args.self.now c.add_child.new.self c.add_child.ensures.depth c.add_child.ensures.after c.if-self-ge-LEVEL_LIMIT.false (omega (arith, c.add_child.ensures.depth))

@@ -8,5 +8,5 @@ pub returns : goal.returns
 returns c =
     let d = c.args.self.now.depth in
     let s = c.args.self.now.stack in
-    ap (λ n. Child (get_or s (d - 2) no_open).row.kind (get_or s (d - 2) no_open).row.flags n) c.saturating-sub.ensures
+    ap (λ n. Child (get_or s (d - 2) no_open).row.kind (get_or s (d - 2) no_open).row.flags n) c.saturating_sub.ensures
     ∙ sym (place_around d s c.if-self-lt2.false)

@@ -11,8 +11,8 @@ returns-in-Ok c =
     record {
       answer =
           c.new.ensures
-          ∙ short_name c.args.n c.as-bytes.result.now c.in-Ok.ensures.0
-          (c.as-bytes.ensures ∙ (bytes_of_three_bytes c.base54.result (short c.in-Ok.n) c.base54.ensures.spelled ∙ ap short c.in-Ok.ensures.1));
+          ∙ short_name c.args.n c.as_bytes.result.now c.in-Ok.ensures.0
+          (c.as_bytes.ensures ∙ (bytes_of_three_bytes c.base54.result (short c.in-Ok.n) c.base54.ensures.spelled ∙ ap short c.in-Ok.ensures.1));
       full = short_full;
     }
 

@@ -48,11 +48,11 @@ returns-then-len-min g c =
 pub returns-else-len-min : goal.returns-else-len-min
 returns-else-len-min g c =
     record {
-      lent = same_memory_put c.args.self.now _ c.in-Err.at _ refl c.put-in.ensures refl c.put-in.auto.entries;
+      lent = same_memory_put c.args.self.now _ c.in-Err.at _ refl c.put_in.ensures refl c.put_in.auto.entries;
       grows = refl;
       answered = λ s.
           stored_new g.K.Key.less (laws g) c.args.limit c.args.key c.args.value c.args.self.now _ c.in-Err.at
-          c.put-in.ensures refl c.put-in.auto.entries (omega arith)
+          c.put_in.ensures refl c.put_in.auto.entries (omega arith)
           (subst (λ rs. c.in-Err.at ≤ length rs) c.rows.ensures c.in-Err.ensures.within)
           (subst (λ rs. Ascending g.K.Key.less rs → Missing g.K.Key.less c.args.key rs c.in-Err.at) c.rows.ensures c.in-Err.ensures.sought s.ascending)
           s;
