@@ -45,9 +45,9 @@ plain_walk-returns-in-Err-walked t c =
     λ s. let turn = c.loop-position.invariant (brood s) (sym (root_kind s)) in
     let walked : ChildWalked (brood s) (setting c.args.page.now) false turn c.loop-position-test.true c.if-is_walked_as_key.into c.if-is_walked_as_key.lacks c.if-is_walked_as_key.walked =
     elim c.if-is_walked_as_key.branch [
-      | plain-walk-then-is-walked-as-key w ↦ same_walk (setting c.args.page.now) _ _ _ _ (child_way (brood s).kind _ false true c.loop-position.position (get_or c.args.page.now.rows.now c.args.at zero_row).children (sym (root_kind s)) w.if-is_walked_as_key.ensures) w.into-is w.lacks-is w.walked-is
+      | plain_walk-then-is_walked_as_key w ↦ same_walk (setting c.args.page.now) _ _ _ _ (child_way (brood s).kind _ false true c.loop-position.position (get_or c.args.page.now.rows.now c.args.at zero_row).children (sym (root_kind s)) w.if-is_walked_as_key.ensures) w.into-is w.lacks-is w.walked-is
           (w.key_walk-walked.ensures (child (brood s) (setting c.args.page.now) false turn c.loop-position-test.true))
-      | plain-walk-else-is-walked-as-key w ↦ same_walk (setting c.args.page.now) _ _ _ _ (child_way (brood s).kind _ false false c.loop-position.position (get_or c.args.page.now.rows.now c.args.at zero_row).children (sym (root_kind s)) w.if-is_walked_as_key.ensures) w.into-is w.lacks-is w.walked-is
+      | plain_walk-else-is_walked_as_key w ↦ same_walk (setting c.args.page.now) _ _ _ _ (child_way (brood s).kind _ false false c.loop-position.position (get_or c.args.page.now.rows.now c.args.at zero_row).children (sym (root_kind s)) w.if-is_walked_as_key.ensures) w.into-is w.lacks-is w.walked-is
           (w.plain_walk-walked.ensures (child (brood s) (setting c.args.page.now) false turn c.loop-position-test.true))
     ] in
     stopped_at_child s (setting c.args.page.now) false c.in-Err-walked.refusal c.args.into.now c.visit.new.into c.if-is_walked_as_key.into c.args.lacks.now c.visit.new.lacks c.in-Ok.ensures
@@ -58,9 +58,9 @@ plain_walk-loop-position-preserved t c =
     λ b e. let turn = c.loop-position.invariant b e in
     let walked : ChildWalked b (setting c.args.page.now) false turn c.loop-position-test.true c.if-is_walked_as_key.into c.if-is_walked_as_key.lacks c.if-is_walked_as_key.walked =
     elim c.if-is_walked_as_key.branch [
-      | plain-walk-then-is-walked-as-key w ↦ same_walk (setting c.args.page.now) _ _ _ _ (child_way b.kind _ false true c.loop-position.position (get_or c.args.page.now.rows.now c.args.at zero_row).children e w.if-is_walked_as_key.ensures) w.into-is w.lacks-is w.walked-is
+      | plain_walk-then-is_walked_as_key w ↦ same_walk (setting c.args.page.now) _ _ _ _ (child_way b.kind _ false true c.loop-position.position (get_or c.args.page.now.rows.now c.args.at zero_row).children e w.if-is_walked_as_key.ensures) w.into-is w.lacks-is w.walked-is
           (w.key_walk-walked.ensures (child b (setting c.args.page.now) false turn c.loop-position-test.true))
-      | plain-walk-else-is-walked-as-key w ↦ same_walk (setting c.args.page.now) _ _ _ _ (child_way b.kind _ false false c.loop-position.position (get_or c.args.page.now.rows.now c.args.at zero_row).children e w.if-is_walked_as_key.ensures) w.into-is w.lacks-is w.walked-is
+      | plain_walk-else-is_walked_as_key w ↦ same_walk (setting c.args.page.now) _ _ _ _ (child_way b.kind _ false false c.loop-position.position (get_or c.args.page.now.rows.now c.args.at zero_row).children e w.if-is_walked_as_key.ensures) w.into-is w.lacks-is w.walked-is
           (w.plain_walk-walked.ensures (child b (setting c.args.page.now) false turn c.loop-position-test.true))
     ] in
     one_more b (setting c.args.page.now) false turn c.loop-position-test.true c.if-is_walked_as_key.into c.if-is_walked_as_key.lacks c.if-is_walked_as_key.walked c.in-Ok-walked.after c.in-Ok-walked.is walked
@@ -97,8 +97,8 @@ key_walk-key_walk-walked-requires t c =
     let ahead : c.args.at < c.loop-position.next = omega (arith, turn.far) in
     (search rules, (child (brood c.requires.stands) (setting c.args.page.now) true turn c.loop-position-test.true, (c.requires.places, moves_sounds turn.moves)))
 
-pub key_walk_plain_walk-walked-requires : goal.key_walk_plain_walk-walked-requires
-key_walk_plain_walk-walked-requires t c =
+pub key_walk-plain_walk-walked-requires : goal.key_walk-plain_walk-walked-requires
+key_walk-plain_walk-walked-requires t c =
     let turn = c.loop-position.invariant (brood c.requires.stands) (sym (root_kind c.requires.stands)) in
     let here : c.args.at < length c.args.page.now.rows.now = stands_within c.requires.stands in
     let ahead : c.args.at < c.loop-position.next = omega (arith, turn.far) in
@@ -109,9 +109,9 @@ key_walk-returns-in-Err-walked t c =
     λ s. let turn = c.loop-position.invariant (brood s) (sym (root_kind s)) in
     let walked : ChildWalked (brood s) (setting c.args.page.now) true turn c.loop-position-test.true c.if-is_walked_as_key.into c.if-is_walked_as_key.lacks c.if-is_walked_as_key.walked =
     elim c.if-is_walked_as_key.branch [
-      | key-walk-then-is-walked-as-key w ↦ same_walk (setting c.args.page.now) _ _ _ _ (child_way (brood s).kind _ true true c.loop-position.position (get_or c.args.page.now.rows.now c.args.at zero_row).children (sym (root_kind s)) w.if-is_walked_as_key.ensures) w.into-is w.lacks-is w.walked-is
+      | key_walk-then-is_walked_as_key w ↦ same_walk (setting c.args.page.now) _ _ _ _ (child_way (brood s).kind _ true true c.loop-position.position (get_or c.args.page.now.rows.now c.args.at zero_row).children (sym (root_kind s)) w.if-is_walked_as_key.ensures) w.into-is w.lacks-is w.walked-is
           (w.key_walk-walked.ensures (child (brood s) (setting c.args.page.now) true turn c.loop-position-test.true))
-      | key-walk-else-is-walked-as-key w ↦ same_walk (setting c.args.page.now) _ _ _ _ (child_way (brood s).kind _ true false c.loop-position.position (get_or c.args.page.now.rows.now c.args.at zero_row).children (sym (root_kind s)) w.if-is_walked_as_key.ensures) w.into-is w.lacks-is w.walked-is
+      | key_walk-else-is_walked_as_key w ↦ same_walk (setting c.args.page.now) _ _ _ _ (child_way (brood s).kind _ true false c.loop-position.position (get_or c.args.page.now.rows.now c.args.at zero_row).children (sym (root_kind s)) w.if-is_walked_as_key.ensures) w.into-is w.lacks-is w.walked-is
           (w.plain_walk-walked.ensures (child (brood s) (setting c.args.page.now) true turn c.loop-position-test.true))
     ] in
     stopped_at_child s (setting c.args.page.now) true c.in-Err-walked.refusal c.args.into.now c.visit.new.into c.if-is_walked_as_key.into c.args.lacks.now c.visit.new.lacks c.in-Ok.ensures
@@ -122,9 +122,9 @@ key_walk-loop-position-preserved t c =
     λ b e. let turn = c.loop-position.invariant b e in
     let walked : ChildWalked b (setting c.args.page.now) true turn c.loop-position-test.true c.if-is_walked_as_key.into c.if-is_walked_as_key.lacks c.if-is_walked_as_key.walked =
     elim c.if-is_walked_as_key.branch [
-      | key-walk-then-is-walked-as-key w ↦ same_walk (setting c.args.page.now) _ _ _ _ (child_way b.kind _ true true c.loop-position.position (get_or c.args.page.now.rows.now c.args.at zero_row).children e w.if-is_walked_as_key.ensures) w.into-is w.lacks-is w.walked-is
+      | key_walk-then-is_walked_as_key w ↦ same_walk (setting c.args.page.now) _ _ _ _ (child_way b.kind _ true true c.loop-position.position (get_or c.args.page.now.rows.now c.args.at zero_row).children e w.if-is_walked_as_key.ensures) w.into-is w.lacks-is w.walked-is
           (w.key_walk-walked.ensures (child b (setting c.args.page.now) true turn c.loop-position-test.true))
-      | key-walk-else-is-walked-as-key w ↦ same_walk (setting c.args.page.now) _ _ _ _ (child_way b.kind _ true false c.loop-position.position (get_or c.args.page.now.rows.now c.args.at zero_row).children e w.if-is_walked_as_key.ensures) w.into-is w.lacks-is w.walked-is
+      | key_walk-else-is_walked_as_key w ↦ same_walk (setting c.args.page.now) _ _ _ _ (child_way b.kind _ true false c.loop-position.position (get_or c.args.page.now.rows.now c.args.at zero_row).children e w.if-is_walked_as_key.ensures) w.into-is w.lacks-is w.walked-is
           (w.plain_walk-walked.ensures (child b (setting c.args.page.now) true turn c.loop-position-test.true))
     ] in
     one_more b (setting c.args.page.now) true turn c.loop-position-test.true c.if-is_walked_as_key.into c.if-is_walked_as_key.lacks c.if-is_walked_as_key.walked c.in-Ok-walked.after c.in-Ok-walked.is walked

@@ -33,7 +33,7 @@ loop-place-preserved c =
     elim c.match-take.branch [
       | in-Quiet w ↦ c.loop-place.invariant.0 ∙ (run_at s i a m c.loop-place-test.true (stepped c.take.new.self Quiet) w.in-Quiet.ensures ∙ same _ _ w.rows-is w.text-is)
       | in-Text w ↦ c.loop-place.invariant.0 ∙ (run_at s i a m c.loop-place-test.true (stepped c.take.new.self (Text w.in-Text.at w.in-Text.byte)) w.in-Text.ensures ∙ same _ _ w.rows-is (w.text-is ∙ w.put.ensures))
-      | in-Done w ↦ c.loop-place.invariant.0 ∙ (run_at s i a m c.loop-place-test.true (stepped c.take.new.self (Done w.in-Done.number w.in-Done.row)) w.in-Done.ensures ∙ same _ _ (w.rows-is ∙ w.put_in-Done.ensures) w.text-is)
+      | in-Done w ↦ c.loop-place.invariant.0 ∙ (run_at s i a m c.loop-place-test.true (stepped c.take.new.self (Done w.in-Done.number w.in-Done.row)) w.in-Done.ensures ∙ same _ _ (w.rows-is ∙ w.put-in-Done.ensures) w.text-is)
     ] in
     (e, subst (λ (t : Step). Within (i + 1) t.to) (sym c.take.ensures) (within_next i a c.loop-place.invariant.1 (get_or s i 0)))
 

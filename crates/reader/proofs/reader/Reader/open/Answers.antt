@@ -6,7 +6,7 @@ pub bounds-self-self : goal.bounds-self-self
 bounds-self-self c = omega (arith, c.add_child.ensures.depth)
 
 pub invariant_of-self : goal.invariant_of-self
-invariant_of-self c = (omega (arith, c.add_child.ensures.depth), tt)
+invariant_of-self c = record { few = omega (arith, c.add_child.ensures.depth) }
 
 pub returns : goal.returns
 returns c =
