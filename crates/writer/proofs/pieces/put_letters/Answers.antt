@@ -8,12 +8,12 @@ loop-b-init c = wrote_none _ _ _
 
 pub loop-b-preserved : goal.loop-b-preserved
 loop-b-preserved c =
-    wrote_letter c.args.text.now c.loop-b.b-index (omega arith) c.loop-b.invariant c.in-ok-at.ensures
+    wrote_letter c.args.text.now c.loop-b.b-index (omega arith) c.loop-b.invariant c.in_ok-at.ensures
 
-pub returns-in-err-at : goal.returns-in-err-at
-returns-in-err-at c =
-    puts_full _ _ _ _ _ c.from-residual.ensures
-    (full_letter c.args.text.now c.loop-b.b-index (omega arith) c.loop-b.invariant c.in-err-at.ensures)
+pub returns-in_err-at : goal.returns-in_err-at
+returns-in_err-at c =
+    puts_full _ _ _ _ _ c.from_residual.ensures
+    (full_letter c.args.text.now c.loop-b.b-index (omega arith) c.loop-b.invariant c.in_err-at.ensures)
 
 pub returns : goal.returns
 returns c = wrote_letters c.args.text.now c.loop-b.b-index c.loop-b-test.false c.loop-b.invariant

@@ -4,13 +4,13 @@ use Rattle.writer.proofs.Putting.{puts_after, puts_broken, puts_same, full_after
 use Rattle.writer.proofs.Spelling.{quoted_parts}
 use Rattle.writer.proofs.pieces.put_quoted.Goals as goal
 
-pub returns-in-err-inside : goal.returns-in-err-inside
-returns-in-err-inside c =
-    puts_broken _ _ _ _ _ _ (quoted_parts c.args.text.now) c.from-residual-in-err-inside.ensures
-    (full_after (out_bytes c.args.text.now [] ++ (34 ∷ [])) c.in-ok-opened.ensures
-    (full_before _ _ (out_bytes c.args.text.now []) (34 ∷ []) c.in-err-inside.ensures))
+pub returns-in_err-inside : goal.returns-in_err-inside
+returns-in_err-inside c =
+    puts_broken _ _ _ _ _ _ (quoted_parts c.args.text.now) c.from_residual-in_err-inside.ensures
+    (full_after (out_bytes c.args.text.now [] ++ (34 ∷ [])) c.in_ok-opened.ensures
+    (full_before _ _ (out_bytes c.args.text.now []) (34 ∷ []) c.in_err-inside.ensures))
 
 pub returns : goal.returns
 returns c =
     puts_same _ _ _ _ _ _ c.put.result (quoted_parts c.args.text.now)
-    (puts_after _ _ c.put.result c.in-ok-opened.ensures (puts_after _ _ c.put.result c.in-ok-inside.ensures c.put.ensures))
+    (puts_after _ _ c.put.result c.in_ok-opened.ensures (puts_after _ _ c.put.result c.in_ok-inside.ensures c.put.ensures))
