@@ -6,9 +6,9 @@ use matchers::{Matcher, Pattern, Without, WordList};
 fn answers<M: Matcher>(matcher: &M, answer: &[u8], name: &[u8]) -> bool {
     let found = matcher.is_match(name);
     if found {
-        answer == b"yes"
+        answer == b"yes".as_slice()
     } else {
-        answer == b"no"
+        answer == b"no".as_slice()
     }
 }
 
