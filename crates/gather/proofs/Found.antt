@@ -1,10 +1,9 @@
 -- What is found of a page, and what is left of the tables.
-use Rattle.std.proofs.Common.{◌≡◌, ℕ, List, [], ◌++◌, length, drop, replicate, Ok, Err, Result, sym, refl, ap, ◌∙◌, subst, inl, inr, ⊎_elim, append-nil, arith}
+use Rattle.std.proofs.Common.{◌≡◌, ℕ, List, [], length, replicate, Ok, Err, Result, sym, refl, ap, ◌∙◌, subst, ⊎_elim, append-nil, arith}
 use lib.ListN.{length-replicate}
 use Rattle.names.specs.declared.name.Name.{Name}
 use Rattle.names.specs.Names.{name_of}
 use Rattle.pages.specs.declared.refusal.Refusal.{Refusal}
-use Rattle.pages.specs.declared.refusal.Refusal.TheVariants.{Overfull}
 use Rattle.pages.specs.declared.row.Row.{Row}
 use Rattle.pages.specs.declared.shape.Place.TheVariants.{Root}
 use Rattle.pages.specs.Refusals.{Checked}
@@ -15,7 +14,7 @@ use Rattle.table.specs.declared.table.Table.{Table}
 use Rattle.table.specs.Rows.{memory}
 use Rattle.gather.specs.declared.collection.PropertyMangleCollection.{PropertyMangleCollection}
 use Rattle.gather.specs.Filling.{BothLent, Lent}
-use Rattle.gather.specs.Gathering.{BrokenOff, Cleared, ComesTo, Emptied, Filled, Finds, Gathers, Left, Outcome, Whole, WalksWhole, answer, deep_at, gathered, is_gathered, is_overfull, is_wrong, misshapen_at, overfull, size, wrong_name}
+use Rattle.gather.specs.Gathering.{Cleared, ComesTo, Emptied, Filled, Finds, Gathers, Left, Outcome, WalksWhole, answer, deep_at, gathered, is_gathered, is_overfull, is_wrong, misshapen_at, overfull, size, wrong_name}
 use Rattle.gather.specs.Walking.{Stands, setting}
 use Rattle.gather.proofs.Outcomes.{checked_once, lawful_shape, one_outcome, refused_shape}
 

@@ -8,7 +8,7 @@ use Rattle.std.proofs.lemmas.Bool.Decides.{same_from_decides, nat_tests}
 use Rattle.names.specs.declared.name.Name.{Name}
 use Rattle.names.specs.Names.{before, bytes_of, long, name_of}
 use Rattle.names.specs.Order.{less}
-use Rattle.names.specs.Laws.{less_before_others, less_irreflexive, less_total, less_transitive}
+use Rattle.names.specs.Laws.{less_irreflexive, less_total}
 use Rattle.table.specs.declared.table.Entry.{Entry}
 use Rattle.table.specs.Calls.{grown}
 use Rattle.table.specs.Maps.{Ascending, equivalent, inserted, lookup}

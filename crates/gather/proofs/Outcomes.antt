@@ -1,5 +1,5 @@
 -- A page comes to one outcome, and which it is where the rows do not form a lawful tree.
-use Rattle.std.proofs.Common.{◌≡◌, ℕ, ◌+◌, Bool, true, false, ◌⊎◌, List, [], ◌∷◌, ◌++◌, Ok, Err, Result, sym, refl, ap, ◌∙◌, subst, inl, inr, arith}
+use Rattle.std.proofs.Common.{◌≡◌, ℕ, ◌+◌, Bool, true, false, List, [], ◌∷◌, ◌++◌, Ok, Err, Result, sym, refl, ap, ◌∙◌, subst, inl, inr, arith}
 use Rattle.names.specs.Names.{long}
 use Rattle.names.specs.Texts.{foreign}
 use Rattle.pages.specs.declared.refusal.Refusal.{Refusal}
@@ -11,7 +11,7 @@ use Rattle.positions.specs.Roles.{Setting, counted, counted_at}
 use Rattle.positions.specs.Walks.{Position, positions}
 use Rattle.gather.specs.declared.collection.PropertyMangleCollection.{PropertyMangleCollection}
 use Rattle.gather.specs.Faults.{AllRight, FirstWrong, Right, Wrong, too_long, not_ascii, long_number}
-use Rattle.gather.specs.Gathering.{Size, HasRoom, Outcome, misshapen_at, deep_at, wrong_name, overfull, gathered, ComesTo, is_misshapen, is_deep, is_wrong, is_overfull, is_gathered, answer, Cleared, Left}
+use Rattle.gather.specs.Gathering.{Size, HasRoom, Outcome, misshapen_at, deep_at, wrong_name, gathered, ComesTo, is_misshapen, is_deep, is_wrong, is_overfull, is_gathered, answer, Cleared, Left}
 
 -- what is both true and false
 both_ways : (b : Bool) → b ≡ true → b ≡ false → ⊥

@@ -1,9 +1,9 @@
 -- Places: whether they ascend, and whether a start is among them.
-use Rattle.std.proofs.Common.{◌≡◌, ℕ, zero, suc, ◌+◌, ◌-◌, ◌<◌, ◌≤◌, Bool, true, false, cond, not, ◌&&◌, eqb, ltb, List, [], ◌∷◌, length, get_or, drop, is_some, sym, refl, ap, ◌∙◌, subst, inl, inr, add-one, arith, drop-cons}
+use Rattle.std.proofs.Common.{◌≡◌, ℕ, zero, suc, ◌+◌, ◌-◌, ◌<◌, ◌≤◌, true, false, ltb, List, length, get_or, drop, sym, refl, ap, subst, inl, inr, add-one, arith, drop-cons}
 use Rattle.std.proofs.lemmas.List.{drop_all, get_or_default}
 use Rattle.std.proofs.lemmas.Bool.{cases_order, le-ltb, lt-ltb, ltb-true}
 use Rattle.table.specs.declared.table.Entry.{Entry}
-use Rattle.table.specs.Maps.{Ascending, equivalent, lookup}
+use Rattle.table.specs.Maps.{Ascending, equivalent}
 use Rattle.positions.specs.Roles.{is_place}
 
 abbrev pub Places : Type 0

@@ -1,10 +1,10 @@
 -- What a row's position counts and occupies.
-use Rattle.std.proofs.Common.{◌≡◌, ℕ, ◌+◌, ◌-◌, Bool, true, false, cond, leb, List, length, take, drop, Some, None, Option, Result, sym, refl, ap, ◌∙◌, subst, inl, inr, arith}
+use Rattle.std.proofs.Common.{◌≡◌, ℕ, ◌+◌, ◌-◌, Bool, leb, List, length, take, drop, Some, Option, Result, sym, ap, ◌∙◌, subst, inl, inr, arith}
 use Rattle.std.proofs.lemmas.Bool.{cases_Bool, cond-false, cond-true}
 use Rattle.pages.specs.declared.refusal.Refusal.{Refusal}
 use Rattle.pages.specs.declared.row.Part.{Part}
 use Rattle.pages.specs.declared.row.Row.{Row}
-use Rattle.pages.specs.Trees.{Text, astray, bytes, text_in}
+use Rattle.pages.specs.Trees.{astray, bytes, text_in}
 use Rattle.positions.specs.declared.role.Role.{Role}
 use Rattle.positions.specs.Roles.{Setting, counted_at, is_place, occupied_at, role, role_of, text_if}
 use Rattle.gather.specs.declared.collection.PropertyMangleCollection.{PropertyMangleCollection}

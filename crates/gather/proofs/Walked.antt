@@ -1,5 +1,5 @@
 -- The walks over a tree that stands in rows.
-use Rattle.std.proofs.Common.{◌≡◌, ℕ, ◌+◌, ◌-◌, ◌<◌, ◌≤◌, Bool, true, false, ◌⊎◌, List, [], ◌∷◌, ◌++◌, length, get_or, drop, None, Ok, Err, Result, sym, refl, ap, ◌∙◌, subst, inl, inr, append_assoc, arith, length-append, length-drop}
+use Rattle.std.proofs.Common.{◌≡◌, ℕ, ◌+◌, ◌-◌, ◌<◌, ◌≤◌, Bool, false, List, [], ◌∷◌, ◌++◌, length, get_or, drop, None, Ok, Err, Result, sym, refl, ap, ◌∙◌, subst, inl, inr, append_assoc, arith, length-append, length-drop}
 use lib.ListN.{length-map}
 use Rattle.std.proofs.lemmas.List.{append-nil, drop_more}
 use Rattle.pages.specs.declared.refusal.Refusal.{Refusal}
@@ -8,17 +8,17 @@ use Rattle.pages.specs.declared.row.Row.{Row}
 use Rattle.pages.specs.declared.kind.Kind.{Kind}
 use Rattle.pages.specs.declared.kind.Kind.TheVariants.{Node as Node-kind}
 use Rattle.pages.specs.declared.shape.Place.TheVariants.{Child}
-use Rattle.pages.specs.Trees.{Text, astray, Label, Tree, Forest, tree, none, more, count, Node, nodes, nodes_all, shown, shows, text_in}
-use Rattle.pages.specs.Shape.{All, Fine, Visit, visits, visits_all}
+use Rattle.pages.specs.Trees.{astray, Tree, Forest, tree, none, more, count, Node, nodes, nodes_all, shown, shows, text_in}
+use Rattle.pages.specs.Shape.{All, Fine, visits, visits_all}
 use Rattle.pages.proofs.Fineness.{all_first, all_others, all_front, all_back, fine_text, same_first, same_others, shown_later}
 use Rattle.positions.specs.Roles.{Setting, counted, counted_at, occupied, occupied_at}
 use Rattle.positions.specs.Walks.{Position, child_walk, walked, walked_all}
 use Rattle.gather.specs.declared.collection.PropertyMangleCollection.{PropertyMangleCollection}
 use Rattle.gather.specs.declared.note.Shortfall.{Shortfall}
-use Rattle.gather.specs.Faults.{AllRight, FirstWrong, Right, Wrong}
+use Rattle.gather.specs.Faults.{AllRight, FirstWrong, Wrong}
 use Rattle.gather.specs.Filling.{BothLent, Moves, Sounds}
 use Rattle.gather.specs.Walking.{Stands, Stopped, WalkedOver, Walks, position}
-use Rattle.gather.proofs.Moving.{both_lent_then, moves_both, moves_lent, moves_none, moves_sounds}
+use Rattle.gather.proofs.Moving.{both_lent_then, moves_both, moves_lent, moves_none}
 
 -- a tree has as many positions as nodes
 mutual

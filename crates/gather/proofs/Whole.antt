@@ -1,24 +1,22 @@
 -- From the walk over a whole page to what gathering it gives.
-use Rattle.std.proofs.Common.{◌≡◌, ℕ, ◌+◌, ◌<◌, ◌≤◌, min, Bool, true, false, ◌&&◌, ◌||◌, leb, ◌⊎◌, List, [], ◌∷◌, ◌++◌, map, length, drop, sym, refl, ap, ◌∙◌, subst, inl, inr, ⊎_elim, arith, length-append}
+use Rattle.std.proofs.Common.{◌≡◌, ℕ, ◌<◌, ◌≤◌, min, Bool, true, false, ◌&&◌, ◌||◌, leb, List, [], ◌∷◌, map, length, drop, sym, refl, ap, ◌∙◌, subst, inl, inr, ⊎_elim, arith, length-append}
 use Rattle.std.proofs.lemmas.Bool.{and_cases, and_parts, false≢true, leb-false, leb-true, or_cases, or_parts}
 use Rattle.names.specs.declared.name.Name.{Name}
-use Rattle.names.specs.Names.{before as less, name_of}
+use Rattle.names.specs.Names.{name_of}
 use Rattle.pages.specs.declared.refusal.Refusal.{Refusal}
 use Rattle.pages.specs.declared.refusal.Refusal.TheVariants.{Overfull}
 use Rattle.pages.specs.Trees.{Text, Tree, astray, bytes, nodes, without}
 use Rattle.positions.specs.declared.page.Page.{Page}
 use Rattle.positions.specs.Roles.{Setting, counted, counted_at, occupied, role_of, text_if}
-use Rattle.positions.specs.Walks.{Position, positions, walked}
-use Rattle.table.specs.declared.table.Entry.{Entry}
+use Rattle.positions.specs.Walks.{Position, positions}
 use Rattle.table.specs.declared.table.Table.{Table}
 use Rattle.table.specs.Rows.{cleared, memory, rows}
 use Rattle.tally.specs.Counts.{count_sum}
 use Rattle.gather.specs.declared.collection.PropertyMangleCollection.{PropertyMangleCollection}
 use Rattle.gather.specs.declared.note.Shortfall.{Shortfall}
 use Rattle.gather.specs.Counting.{HoldsCounts, HoldsTexts, different, kept, sum_of}
-use Rattle.gather.specs.Faults.{AllRight, FirstWrong}
-use Rattle.gather.specs.Filling.{BothLent, Fills, Lent, Moves, room, tallied, unit_sum}
-use Rattle.gather.specs.Gathering.{BrokenOff, Filled, HasRoom, NoRoom, Whole, size}
+use Rattle.gather.specs.Filling.{BothLent, Fills, Lent, room, tallied, unit_sum}
+use Rattle.gather.specs.Gathering.{BrokenOff, HasRoom, Whole, size}
 use Rattle.gather.specs.Walking.{Stopped, WalkedOver, setting}
 use Rattle.gather.proofs.Held.{AllShort, counts_length, counts_sum, held_counts, held_texts, kept_short, right_short, texts_length}
 use Rattle.gather.proofs.Moving.{both_lent_then, moves_lent}

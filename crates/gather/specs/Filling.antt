@@ -1,5 +1,5 @@
 -- What the private steps that fill a table are held to. No public promise rests on it.
-use Rattle.std.specs.Prelude.{◌≡◌, ℕ, ◌+◌, ◌<◌, ◌≤◌, min, Bool, true, false, ◌⊎◌, List, [], ◌∷◌, map, length, Ok, Err, Result}
+use Rattle.std.specs.Prelude.{◌≡◌, ℕ, ◌<◌, ◌≤◌, min, Bool, true, false, ◌⊎◌, List, [], ◌∷◌, map, length, Ok, Err, Result}
 use Rattle.pages.specs.declared.refusal.Refusal.{Refusal}
 use Rattle.names.specs.declared.name.Name.{Name}
 use Rattle.names.specs.Names.{before, name_of}

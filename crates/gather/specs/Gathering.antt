@@ -4,16 +4,15 @@ use Rattle.names.specs.declared.name.Name.{Name}
 use Rattle.names.specs.Names.{name_of}
 use Rattle.pages.specs.declared.refusal.Refusal.{Refusal}
 use Rattle.pages.specs.declared.refusal.Refusal.TheVariants.{Misshapen, Deep, Overfull}
-use Rattle.pages.specs.Trees.{Tree, Node, tree, nodes, shown}
+use Rattle.pages.specs.Trees.{Tree, Node, nodes, shown}
 use Rattle.positions.specs.declared.page.Page.{Page}
 use Rattle.gather.specs.Filling.{BothLent}
-use Rattle.gather.specs.Walking.{Stands, setting}
+use Rattle.gather.specs.Walking.{setting}
 use Rattle.pages.specs.Shape.{Lawful, Judged, misshapen, deep}
 use Rattle.positions.specs.Roles.{Setting, counted, occupied}
 use Rattle.positions.specs.Walks.{positions}
-use Rattle.table.specs.declared.table.Entry.{Entry}
 use Rattle.table.specs.declared.table.Table.{Table}
-use Rattle.table.specs.Rows.{memory, rows, SameMemory}
+use Rattle.table.specs.Rows.{memory, rows}
 use Rattle.gather.specs.declared.collection.PropertyMangleCollection.{PropertyMangleCollection}
 use Rattle.gather.specs.Counting.{HoldsCounts, HoldsTexts, different, kept, sum_of}
 use Rattle.gather.specs.Faults.{AllRight, FirstWrong}

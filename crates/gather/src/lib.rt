@@ -1,4 +1,6 @@
 // Gathers the property names of a page: which are there, how often, and which texts are occupied.
+#![tactic(auto)]
+
 mod collection;
 mod gather;
 mod note;

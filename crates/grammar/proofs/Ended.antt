@@ -2,7 +2,7 @@
 use Rattle.std.proofs.Common.{◌≡◌, ℕ, List, [], ◌∷◌, sym, refl, ap, ◌∙◌, subst, arith}
 use Rattle.pages.specs.Trees.{Tree}
 use Rattle.grammar.specs.Grammar.{gap, yield, tree_of, Listing}
-use Rattle.grammar.specs.Scan.{before, after, Open, Scan, Memory, applied, next, ended, run, at_start}
+use Rattle.grammar.specs.Scan.{after, Open, Scan, Memory, applied, next, ended, run, at_start}
 use Rattle.grammar.proofs.Rests.{FormRest, Rest}
 use Rattle.grammar.proofs.Back.{RestOf, back}
 use Rattle.grammar.proofs.Runs.{ended_scan, run_none, step_ended}

@@ -1,12 +1,12 @@
 -- Bytes have one outcome.
-use Rattle.std.proofs.Common.{◌≡◌, ℕ, ◌+◌, ◌<◌, ◌≤◌, ◌⊎◌, List, [], ◌∷◌, ◌++◌, length, take, drop, sym, refl, ap, ◌∙◌, subst, inl, inr, append_assoc, arith}
+use Rattle.std.proofs.Common.{◌≡◌, ℕ, ◌+◌, ◌<◌, ◌≤◌, List, ◌++◌, take, drop, sym, refl, ap, ◌∙◌, subst, inl, inr, append_assoc, arith}
 use Rattle.std.proofs.lemmas.List.{take-append-drop, take-take}
 use Rattle.std.proofs.lemmas.Bool.{cases_order}
 use Rattle.pages.specs.Trees.{Tree, nodes}
-use Rattle.pages.specs.Shape.{Verdict, lawful, misshapen, Judged, whole, Lawful}
+use Rattle.pages.specs.Shape.{lawful, misshapen, Judged, whole, Lawful}
 use Rattle.pages.proofs.Verdicts.{judged_once}
 use Rattle.grammar.specs.Grammar.{Listing, Goes_on}
-use Rattle.grammar.specs.Reading.{BreaksOff, Outcome, read, unread, misread, overfull, ComesTo, is_unread, is_misread, is_overfull, is_read, Fits}
+use Rattle.grammar.specs.Reading.{BreaksOff, Outcome, read, unread, misread, ComesTo, is_unread, is_misread, is_overfull, is_read, Fits}
 use Rattle.grammar.proofs.Shown.{listing_one_tree}
 
 -- what a listing begins with, one begins with the front of

@@ -1,7 +1,7 @@
 -- The grammar of listings. A `Form` is a derivation: what stands in a form, with the free choices of its
 -- layout. Its yield is the bytes that it is written with, and its tree is what it means.
 -- Each yield is put in front of the bytes that follow.
-use Rattle.std.specs.Prelude.{◌≡◌, ℕ, ◌+◌, ◌*◌, ◌^◌, ◌<◌, ◌≤◌, max, Bool, true, false, cond, List, [], ◌∷◌, ◌++◌, decimal}
+use Rattle.std.specs.Prelude.{◌≡◌, ℕ, ◌+◌, ◌*◌, ◌^◌, ◌<◌, ◌≤◌, max, true, false, List, [], ◌∷◌, ◌++◌, decimal}
 use Rattle.pages.specs.declared.kind.Kind.{Kind}
 use Rattle.pages.specs.declared.row.Flags.{Flags}
 use Rattle.pages.specs.Trees.{Text, without, bytes, Label, Tree, Forest, tree, none, more}

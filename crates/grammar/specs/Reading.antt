@@ -1,10 +1,9 @@
 -- What a reading of a listing gives.
-use Rattle.std.specs.Prelude.{◌≡◌, ℕ, ◌+◌, ◌<◌, ◌≤◌, false, List, [], ◌∷◌, ◌++◌, length, take, drop, replicate, Some, None, Option}
+use Rattle.std.specs.Prelude.{ℕ, ◌+◌, ◌<◌, ◌≤◌, false, List, [], ◌∷◌, ◌++◌, length, take, drop, replicate, Some, None, Option}
 use Rattle.pages.specs.declared.kind.Kind.TheVariants.{Node as Node-kind}
-use Rattle.pages.specs.declared.row.Flags.{Flags}
 use Rattle.pages.specs.declared.row.Part.{Part}
 use Rattle.pages.specs.declared.row.Row.{Row}
-use Rattle.pages.specs.Trees.{Text, without, bytes, astray, Label, Tree, Node, nodes}
+use Rattle.pages.specs.Trees.{Text, without, bytes, astray, Tree, Node, nodes}
 use Rattle.pages.specs.Shape.{Lawful, Judged, misshapen}
 use Rattle.grammar.specs.Grammar.{Listing, Goes_on}
 

@@ -1,6 +1,6 @@
 -- The reader's private steps, by what each byte does: a reading of listings as a machine. Nothing that is
 -- promised in public rests on this; the proofs tie it to the grammar.
-use Rattle.std.specs.Prelude.{ℕ, ◌+◌, ◌-◌, ◌*◌, Bool, true, false, cond, not, ◌&&◌, ◌||◌, List, [], ◌∷◌, ◌++◌, length, replicate, Some, None, Option, ◌==◌, nat_le, nat_lt, slice_set}
+use Rattle.std.specs.Prelude.{ℕ, ◌+◌, ◌-◌, ◌*◌, Bool, true, false, cond, ◌&&◌, ◌||◌, List, [], ◌∷◌, ◌++◌, length, replicate, Some, None, Option, ◌==◌, nat_le, nat_lt, slice_set}
 use Rattle.pages.specs.declared.kind.Kind.{Kind}
 use Rattle.pages.specs.declared.row.Flags.{Flags}
 use Rattle.pages.specs.declared.row.Part.{Part}

@@ -1,7 +1,7 @@
 -- The form in which trees are written: each node on a line of its own, indented by one blank for each
 -- level below the root, one blank between parts, closing brackets after the last child, nothing escaped
 -- that need not be. Each definition puts its bytes in front of those that follow.
-use Rattle.std.specs.Prelude.{ℕ, ◌+◌, ◌/◌, ◌%◌, Bool, true, false, cond, List, [], ◌∷◌, ◌++◌, replicate, decimal, ◌==◌}
+use Rattle.std.specs.Prelude.{ℕ, ◌+◌, ◌/◌, ◌%◌, cond, List, [], ◌∷◌, ◌++◌, replicate, decimal, ◌==◌}
 use Rattle.pages.specs.declared.row.Flags.{Flags}
 use Rattle.pages.specs.Trees.{Text, without, bytes, astray, Label, Tree, Forest, tree, none, more}
 use Rattle.grammar.specs.Words.{word, flag_word, flagged, stands, hex}

@@ -1,4 +1,6 @@
 // The names of the kinds, as listings spell them.
+#![tactic(auto)]
+
 ghost use Rattle.std.specs.Prelude.{◌≡◌};
 ghost use Rattle.grammar.specs.Words.{word};
 

@@ -1,5 +1,5 @@
 -- The test of a pattern decides what the pattern means.
-use Rattle.std.proofs.Common.{◌≡◌, ℕ, Bool, true, false, eqb, List, [], ◌∷◌, ◌++◌, length, Decides, sym, refl, ap, arith}
+use Rattle.std.proofs.Common.{◌≡◌, ℕ, Bool, true, eqb, List, [], ◌∷◌, ◌++◌, length, Decides, sym, refl, ap, arith}
 use Rattle.std.proofs.lemmas.Bool.{and_parts, and_from, eqb-true, eq-eqb, false≢true}
 use Rattle.matchers.specs.Patterns.{Piece, run, one, itself, piece, StandsFor, Means, parted, matched}
 use Rattle.matchers.proofs.Suffixes.{suffix_found, suffix_made}

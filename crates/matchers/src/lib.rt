@@ -1,4 +1,6 @@
 // Sets of names that tell whether a name is in them.
+#![tactic(auto)]
+
 mod matcher;
 mod option;
 mod pattern;

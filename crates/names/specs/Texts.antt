@@ -1,5 +1,5 @@
 -- Hard names, and texts that are not ASCII.
-use Rattle.std.specs.Prelude.{ℕ, Bool, true, false, ◌||◌, List, [], ◌∷◌, codes, nat_le}
+use Rattle.std.specs.Prelude.{ℕ, Bool, false, ◌||◌, List, [], ◌∷◌, codes, nat_le}
 use Rattle.std.specs.Str.{bytes_eq}
 
 -- one of the three hard names

@@ -1,4 +1,5 @@
 // Names of at most 255 bytes, their order, and which texts may be names.
+#![tactic(auto)]
 
 mod identifier;
 mod key;

@@ -1,4 +1,6 @@
 // Which texts are numerals: what ECMA-262's Number::toString writes of a finite number in base 10.
+#![tactic(auto)]
+
 ghost use Rattle.std.specs.Prelude.{◌≡◌, Decides};
 ghost use Rattle.numerals.specs.Numeral.{Canonical, HasForm, HasLongForm, OneNumber};
 ghost use Rattle.numerals.specs.Deciding.{Special};

@@ -1,8 +1,8 @@
 -- A fault is told, and nothing changes.
-use Rattle.std.proofs.Common.{◌≡◌, ℕ, ◌<◌, ◌≤◌, Bool, true, false, cond, ◌||◌, ltb, leb, List, length, Some, None, Ok, Err, Option, Result, sym, refl, ap, ◌∙◌, subst, arith, Bor}
-use Rattle.std.proofs.lemmas.Bool.{cond-true, cond-false, leb-true, leb-false, le-ltb, or_from, cases_Bool}
+use Rattle.std.proofs.Common.{◌≡◌, ℕ, Bool, true, false, ◌||◌, leb, List, length, Some, None, Err, Option, Result, sym, refl, ◌∙◌, subst, arith, Bor}
+use Rattle.std.proofs.lemmas.Bool.{cond-true, cond-false, leb-true, le-ltb, or_from}
 use Rattle.pages.specs.declared.refusal.Refusal.{Refusal}
-use Rattle.pages.specs.declared.refusal.Refusal.TheVariants.{Long, Foreign, BadPin}
+use Rattle.pages.specs.declared.refusal.Refusal.TheVariants.{Foreign, BadPin}
 use Rattle.names.specs.declared.name.Name.{Name}
 use Rattle.names.specs.Names.{made_of}
 use Rattle.names.specs.Texts.{foreign}

@@ -1,4 +1,6 @@
 // What a caller gives beside its pages: the cache, the reserved words, and the places of annotated keys.
+#![tactic(auto)]
+
 mod cache;
 mod give;
 mod places;

@@ -1,4 +1,5 @@
 // The page tree as rows: what a node is, which rows form a lawful tree, and what is refused.
+#![tactic(auto)]
 
 mod kind;
 mod memory;

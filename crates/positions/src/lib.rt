@@ -1,4 +1,6 @@
 // Where names stand in a page: the two walks over its tree, and what each position is.
+#![tactic(auto)]
+
 mod page;
 mod role;
 mod walk;

@@ -1,10 +1,10 @@
 -- After n bytes no counter of the reader is past n, and a first hexadecimal digit is below 16.
-use Rattle.std.proofs.Common.{◌≡◌, ℕ, ◌+◌, ◌-◌, ◌*◌, ◌<◌, ◌≤◌, Bool, true, false, cond, ◌&&◌, ◌||◌, eqb, ltb, leb, ◌⊎◌, List, [], ◌∷◌, ◌++◌, length, Some, None, Option, sym, refl, ap, ◌∙◌, inl, inr, arith}
-use Rattle.std.proofs.lemmas.Bool.{cond_both, leb-true, leb-false, and_parts, or_cases, cases_Bool}
+use Rattle.std.proofs.Common.{◌≡◌, ℕ, ◌+◌, ◌-◌, ◌*◌, ◌<◌, ◌≤◌, Bool, true, false, cond, ◌&&◌, ◌||◌, eqb, ltb, leb, ◌⊎◌, List, [], ◌∷◌, ◌++◌, length, Some, None, Option, inl, inr, arith}
+use Rattle.std.proofs.lemmas.Bool.{cond_both, leb-true, leb-false, and_parts, or_cases}
 use Rattle.pages.specs.declared.kind.Kind.{Kind}
 use Rattle.pages.specs.declared.row.Flags.{Flags}
 use Rattle.pages.specs.declared.row.Part.{Part}
-use Rattle.grammar.specs.Scan.{Phase, before, opened, in_word, named, starting, in_start, started, in_flags, flags_done, in_text, escape, in_hex, inside, after, Open, Scan, Step, stuck, moved, on_to, restacked, innermost, with_kind, with_start, with_flags, with_text, with_child, with_byte, grown, open_bracket, close_bracket, phase_in, on_letter, on_name, on_number, on_digit, on_flags, on_flag, between, on_quote, on_byte, in_phase, next, kind_named, is_hex, is_digit, hex_value, flags_of, start_of, begun, is_blank, is_flag}
+use Rattle.grammar.specs.Scan.{Phase, before, opened, in_word, named, starting, in_start, started, in_flags, flags_done, in_text, escape, in_hex, inside, after, Open, Scan, Step, stuck, on_to, restacked, innermost, with_kind, with_start, with_flags, with_text, with_child, with_byte, grown, open_bracket, close_bracket, phase_in, on_letter, on_name, on_number, on_digit, on_flags, on_flag, between, on_quote, on_byte, in_phase, next, kind_named, is_hex, is_digit, hex_value, flags_of, start_of, begun, is_blank, is_flag}
 
 abbrev pub text_length : Option Part → ℕ
 text_length None = 0

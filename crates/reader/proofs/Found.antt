@@ -1,16 +1,15 @@
 -- Each way in which a reading ends, as its outcome.
-use Rattle.std.proofs.Common.{◌≡◌, ℕ, ◌+◌, ◌-◌, ◌<◌, ◌≤◌, Bool, true, false, ◌&&◌, leb, List, [], ◌∷◌, ◌++◌, length, take, drop, replicate, Some, None, Ok, Err, Option, Result, sym, refl, ap, ◌∙◌, subst, arith}
+use Rattle.std.proofs.Common.{◌≡◌, ℕ, ◌-◌, ◌<◌, ◌≤◌, true, false, ◌&&◌, leb, List, [], ◌++◌, length, take, drop, replicate, Some, None, Ok, Err, Result, sym, refl, ap, ◌∙◌, subst, arith}
 use Rattle.std.proofs.lemmas.List.{take_at}
 use Rattle.std.proofs.lemmas.Bool.{and_parts, and_from, le-leb, leb-true, both_ways}
 use Rattle.pages.specs.declared.refusal.Refusal.{Refusal}
 use Rattle.pages.specs.declared.refusal.Refusal.TheVariants.{Misshapen, Unread, Overfull}
 use Rattle.pages.specs.declared.row.Row.{Row}
-use Rattle.pages.specs.Trees.{Tree, Node, nodes, shown}
-use Rattle.pages.specs.Shape.{Verdict, lawful, misshapen, Judged, whole, Lawful, tour}
-use Rattle.pages.proofs.Verdicts.{judged_once}
+use Rattle.pages.specs.Trees.{Tree, nodes, shown}
+use Rattle.pages.specs.Shape.{tour}
 use Rattle.grammar.specs.Grammar.{Listing}
 use Rattle.grammar.specs.Reading.{BreaksOff, Outcome, read, unread, misread, overfull, ComesTo, is_unread, is_misread, is_overfull, is_read, Fits, rows_after, text_after, texts, laid, zero_row}
-use Rattle.grammar.specs.Scan.{Scan, Memory, Ran, ended, broke, run, at_start, after}
+use Rattle.grammar.specs.Scan.{Scan, Memory, ended, broke, run, at_start, after}
 use Rattle.grammar.proofs.Puts.{puts, puts_all}
 use Rattle.grammar.proofs.Lowest.{lowest}
 use Rattle.grammar.proofs.Forms.{listing_runs, length_laid}

@@ -1,7 +1,7 @@
 -- What the reader's changes come to in its description.
-use Rattle.std.proofs.Common.{◌≡◌, ℕ, zero, suc, ◌+◌, ◌-◌, ◌<◌, ◌≤◌, min, Bool, true, false, cond, ◌&&◌, ◌||◌, eqb, ltb, ◌⊎◌, List, [], ◌∷◌, ◌++◌, length, get_or, take, set, sym, refl, ap, ◌∙◌, inl, inr, arith}
+use Rattle.std.proofs.Common.{◌≡◌, ℕ, zero, suc, ◌+◌, ◌-◌, ◌<◌, ◌≤◌, min, Bool, true, false, eqb, ltb, List, [], ◌∷◌, ◌++◌, length, get_or, take, set, sym, refl, ap, ◌∙◌, inl, inr, arith}
 use Rattle.std.proofs.lemmas.List.{length-append, length-take, take_more_set, take_all}
-use Rattle.std.proofs.lemmas.Bool.{cond-true, cond-false, lt-ltb, and_parts, or_cases, cases_Bool, both_ways, cases_lt}
+use Rattle.std.proofs.lemmas.Bool.{cond-true, lt-ltb, and_parts, or_cases, both_ways, cases_lt}
 use Rattle.pages.specs.declared.shape.Place.TheVariants.{Child}
 use Rattle.pages.specs.declared.kind.Kind.{Kind}
 use Rattle.grammar.specs.Words.{word, kinds}
@@ -9,10 +9,9 @@ use Rattle.grammar.specs.Reading.{zero_row}
 use Rattle.grammar.specs.Scan as scan
 use Rattle.grammar.specs.Scan.{Scan, Step, opened, quiet, restacked, innermost, with_child, open_bracket, place_in, prefix, some_begins, begun, phase_in}
 use Rattle.reader.specs.declared.open.Open.{Open}
-use Rattle.reader.specs.declared.open.State.{State}
 use Rattle.reader.specs.declared.open.State.TheVariants.{After, Inside}
 use Rattle.reader.specs.declared.reader.Reader.{Reader}
-use Rattle.reader.specs.View.{view, unwound, open_of, no_open, phase_of}
+use Rattle.reader.specs.View.{view, unwound, no_open, phase_of}
 use Rattle.reader.proofs.Stack.{unwound_length, unwound_push, unwound_pop}
 
 -- after the innermost has its new child, a new entry makes the bracket open

@@ -1,5 +1,5 @@
 -- What the reader's counters and digits leave room for: one more of each.
-use Rattle.std.specs.Prelude.{ℕ, ◌+◌, ◌-◌, ◌^◌, ◌<◌, slice_index_or}
+use Rattle.std.specs.Prelude.{◌+◌, ◌-◌, ◌^◌, ◌<◌, slice_index_or}
 use Rattle.grammar.specs.Scan.{grown}
 use Rattle.reader.specs.declared.open.State.{State}
 use Rattle.reader.specs.declared.open.State.TheVariants as state

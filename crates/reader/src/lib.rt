@@ -1,4 +1,6 @@
 // Reads a page listing: one pass over any bytes, into rows and text that the caller lends.
+#![tactic(auto)]
+
 ghost use Rattle.std.specs.Prelude.{◌≡◌, ◌≤◌, true, false, ◌&&◌, length, IfOk, ◌≢◌, nat_le};
 ghost use Rattle.grammar.specs.Scan.{after};
 ghost use Rattle.reader.specs.Reads.{Reads, Finds};

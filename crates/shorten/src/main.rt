@@ -1,5 +1,7 @@
 // Reads a page listing from standard input, checks it, and prints it in the writer's form, after the cache
 // that the command line gives.
+#![tactic(auto)]
+
 mod given;
 mod print;
 

@@ -1,5 +1,5 @@
 -- Debug spellings: the original name, or the word `property`, in a frame, with the attempt's number.
-use Rattle.std.specs.Prelude.{◌≡◌, ℕ, zero, suc, true, cond, List, [], ◌∷◌, ◌++◌, length, codes, decimal}
+use Rattle.std.specs.Prelude.{◌≡◌, ℕ, zero, suc, true, cond, List, [], ◌++◌, length, codes, decimal}
 use Rattle.names.specs.Identifiers.{identifier}
 use Rattle.spellers.specs.Attempts.{attempts}
 

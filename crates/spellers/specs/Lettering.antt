@@ -1,6 +1,6 @@
 -- Letters tell digits apart, and spell identifier names.
-use Rattle.std.specs.Prelude.{◌≡◌, ℕ, suc, ◌<◌, Bool, true, cond, List, [], ◌∷◌, map, ◌==◌, nat_eq, refl}
-use Rattle.std.proofs.Common.{sym, ap, ◌∙◌, arith}
+use Rattle.std.specs.Prelude.{◌≡◌, ℕ, suc, ◌<◌, true, cond, List, [], ◌∷◌, map, ◌==◌, nat_eq, refl}
+use Rattle.std.proofs.Common.{sym, ap, ◌∙◌}
 use Rattle.std.proofs.lemmas.Bool.{eqb-true}
 use Rattle.names.specs.Identifiers.{starts, digit, goes_on, all_go_on}
 use Rattle.spellers.specs.Numbering.{alphabet, letter, AllBelow}

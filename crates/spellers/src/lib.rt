@@ -1,4 +1,6 @@
 // Spellers: which new names an original name may get, and in which order they are tried.
+#![tactic(auto)]
+
 mod debug;
 mod short;
 mod speller;

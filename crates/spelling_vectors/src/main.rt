@@ -7,6 +7,8 @@
 //     debug|NAME|N|TEXT
 // ANSWER is `yes` or `no`, and TEXT is `none` where there is no spelling.
 // Each line that does not hold is printed, and then how many there were.
+#![tactic(auto)]
+
 mod cases;
 mod matching;
 mod mute;

@@ -1,11 +1,11 @@
 -- Each way out of a search and of an insertion.
-use Rattle.std.proofs.Common.{◌≡◌, ℕ, ◌+◌, ◌<◌, ◌≤◌, min, Bool, true, false, cond, List, ◌∷◌, ◌++◌, length, get_or, take, drop, set, Some, None, Option, sym, refl, ap, ◌∙◌, subst, ⊎_elim, arith, length-set, length-take}
+use Rattle.std.proofs.Common.{◌≡◌, ℕ, ◌+◌, ◌<◌, ◌≤◌, min, Bool, false, List, length, get_or, take, drop, set, Some, None, Option, sym, ap, ◌∙◌, subst, ⊎_elim, arith, length-set, length-take}
 use lib.Seq.{take-set-lt}
-use Rattle.std.proofs.lemmas.List.{get_or-take, get_or_default, drop-set-lt, take_all, take-take}
+use Rattle.std.proofs.lemmas.List.{get_or-take, drop-set-lt, take_all}
 use Rattle.std.proofs.lemmas.Bool.{cases_eq, cases_lt}
 use Rattle.table.specs.declared.table.Entry.{Entry}
 use Rattle.table.specs.declared.table.Table.{Table}
-use Rattle.table.specs.Calls.{Stored, Refused}
+use Rattle.table.specs.Calls.{Stored}
 use Rattle.table.specs.Maps.{Ascending, equivalent, lookup, inserted}
 use Rattle.table.specs.Rows.{memory, rows, Sound, SameMemory}
 use Rattle.table.specs.Search.{Found, Missing, PutIn}

@@ -1,10 +1,10 @@
 -- Halving the rows of an ascending list at a key.
-use Rattle.std.proofs.Common.{◌≡◌, ℕ, ◌+◌, ◌<◌, ◌≤◌, Bool, true, false, List, length, get_or, sym, ap, ◌∙◌, subst, inl, inr, ⊎_elim, arith}
-use Rattle.std.proofs.lemmas.List.{get_or_default, get_or_read}
-use Rattle.std.proofs.lemmas.Bool.{cases_order, cases_eq, cases_Bool, both_ways}
+use Rattle.std.proofs.Common.{◌≡◌, ℕ, ◌+◌, ◌<◌, ◌≤◌, Bool, true, false, List, length, get_or, sym, subst, ⊎_elim, arith}
+use Rattle.std.proofs.lemmas.List.{get_or_read}
+use Rattle.std.proofs.lemmas.Bool.{cases_eq, cases_Bool, both_ways}
 use Rattle.table.specs.declared.table.Entry.{Entry}
 use Rattle.table.specs.Maps.{Ascending}
-use Rattle.table.specs.Search.{Below, Above, Parted}
+use Rattle.table.specs.Search.{Below, Above}
 
 -- The laws of the order of keys.
 pub record Order {K : Type 0} (less : K → K → Bool) : Type 0 where

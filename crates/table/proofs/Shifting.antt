@@ -1,11 +1,11 @@
 -- Moving entries up by one, from the highest down.
-use Rattle.std.proofs.Common.{◌≡◌, ℕ, ◌+◌, ◌-◌, ◌<◌, ◌≤◌, min, ◌≢◌, List, ◌∷◌, ◌++◌, length, get_or, take, drop, set, sym, refl, ap, ◌∙◌, subst, inl, inr, ⊎_elim, arith, length-drop, length-set, length-take}
+use Rattle.std.proofs.Common.{◌≡◌, ℕ, ◌+◌, ◌-◌, ◌<◌, ◌≤◌, ◌≢◌, List, length, get_or, take, drop, set, sym, refl, ap, ◌∙◌, subst, ⊎_elim, arith, length-drop, length-set, length-take}
 use Rattle.table.specs.declared.table.Entry.{Entry}
 use Rattle.table.specs.Search.{PutIn}
 use Rattle.std.specs.List.{insert}
-use Rattle.std.proofs.lemmas.List.{same_lists, get_or-take, get_or-drop, get_or-set_same, get_or-set_other, length-append, get_or_read}
+use Rattle.std.proofs.lemmas.List.{same_lists, get_or-take, get_or-drop, get_or-set_same, get_or-set_other, get_or_read}
 use Rattle.std.proofs.lemmas.List.Edits.{length-insert, get_or-insert_below, get_or-insert_at, get_or-insert_above}
-use Rattle.std.proofs.lemmas.Bool.{cases_eq, cases_lt, cases_order}
+use Rattle.std.proofs.lemmas.Bool.{cases_eq, cases_order}
 
 -- The entries above `low`, up to the one at `len`, are those that stood one lower, and all others are as they were.
 pub record Shifted {X : Type 0} (before : List X) (low len : ℕ) (after : List X) : Type 0 where

@@ -1,4 +1,6 @@
 // An ordered map over memory that the caller lends.
+#![tactic(auto)]
+
 mod finding;
 mod key;
 mod shift;

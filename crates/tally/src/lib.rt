@@ -1,4 +1,6 @@
 // Tables of values that add up: counted names, and plain sets.
+#![tactic(auto)]
+
 mod adding;
 mod merging;
 mod sum;

@@ -5,6 +5,8 @@
 // digits stand for a byte, and `{N:TEXT}` for the text N times.
 // A line `number|ANSWER|TEXT` or `name|ANSWER|TEXT` says what a text is.
 // Each answer that differs is printed, and then how many cases there were.
+#![tactic(auto)]
+
 mod cases;
 mod given;
 mod replay;

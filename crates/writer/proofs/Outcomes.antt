@@ -11,9 +11,8 @@ use Rattle.pages.specs.Refusals.{Checked}
 use Rattle.pages.specs.Refusals as refusals
 use Rattle.grammar.specs.Grammar.{Listing}
 use Rattle.grammar.specs.Written.{out_tree, written}
-use Rattle.grammar.specs.Reading.{Fits, texts, read, is_read}
-use Rattle.reader.specs.declared.Size.{Size}
-use Rattle.reader.specs.Reads.{Reads, answer_to}
+use Rattle.grammar.specs.Reading.{texts, read, is_read}
+use Rattle.reader.specs.Reads.{answer_to}
 use Rattle.writer.specs.declared.form.Spot.{Spot}
 use Rattle.writer.specs.Puts.{Wrote, Puts}
 use Rattle.writer.specs.Walk.{Stands, Formed, Lists}

@@ -1,4 +1,6 @@
 // Writes a page as a listing.
+#![tactic(auto)]
+
 ghost use Rattle.std.specs.Prelude.{◌-◌, ◌^◌, length};
 ghost use Rattle.pages.specs.Trees.{shown, tree};
 ghost use Rattle.writer.specs.Walk.{Lists, Stands};

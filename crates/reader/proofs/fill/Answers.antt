@@ -1,4 +1,4 @@
-use Rattle.std.proofs.Common.{◌≡◌, true, false, ◌&&◌, leb, length, sym, ◌∙◌, arith}
+use Rattle.std.proofs.Common.{◌≡◌, ◌&&◌, leb, length, sym, ◌∙◌, arith}
 use Rattle.reader.specs.View.{view}
 use Rattle.reader.proofs.Found.{found_broke, found_short, found_fault, found_overfull, found_room}
 use Rattle.reader.proofs.fill.Goals as goal

@@ -1,4 +1,4 @@
-use Rattle.std.proofs.Common.{◌≡◌, true, false, sym, refl, ◌∙◌}
+use Rattle.std.proofs.Common.{sym, refl}
 use Rattle.std.proofs.lemmas.Bool.{false≢true}
 use Rattle.gather.specs.Faults.{too_long, not_ascii, long_number}
 use Rattle.gather.proofs.Naming.{long_from_none, made_from_some}

@@ -1,5 +1,5 @@
 -- The root's row shows it, and each turn walks one child.
-use Rattle.std.proofs.Common.{◌≡◌, ◌<◌, true, false, length, get_or, sym, arith, rules}
+use Rattle.std.proofs.Common.{◌<◌, true, false, length, get_or, sym, arith, rules}
 use Rattle.gather.specs.Walking.{setting}
 use Rattle.gather.proofs.Moving.{moves_sounds}
 use Rattle.gather.proofs.Walked.{ChildWalked, brood, child, child_way, one_more, root_kind, same_walk, stands_within, stopped, stopped_at_child, stopped_at_root, text_within, turn_first, whole_tree, zero_row}

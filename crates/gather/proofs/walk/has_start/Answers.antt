@@ -1,5 +1,5 @@
 use Rattle.gather.proofs.Placing.{place_here, place_later, place_nowhere}
-use Rattle.std.proofs.Common.{◌≡◌, sym, ◌∙◌}
+use Rattle.std.proofs.Common.{sym, ◌∙◌}
 use Rattle.gather.proofs.walk.has_start.Goals as goal
 
 pub returns-then-place-start : goal.returns-then-place-start

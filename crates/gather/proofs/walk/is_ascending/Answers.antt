@@ -1,4 +1,4 @@
-use Rattle.std.proofs.Common.{refl, arith}
+use Rattle.std.proofs.Common.{refl}
 use Rattle.std.proofs.lemmas.Bool.{false≢true}
 use Rattle.gather.proofs.Placing.{all_ascend, more_neighbours, no_neighbours, not_ascending}
 use Rattle.gather.proofs.walk.is_ascending.Goals as goal

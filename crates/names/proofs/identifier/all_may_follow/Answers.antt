@@ -1,4 +1,4 @@
-use Rattle.std.proofs.Common.{◌≡◌, sym, ◌∙◌}
+use Rattle.std.proofs.Common.{sym, ◌∙◌}
 use Rattle.names.proofs.Identifying.{go_on_more, go_on_fails, go_on_ends}
 use Rattle.names.proofs.identifier.all_may_follow.Goals as goal
 

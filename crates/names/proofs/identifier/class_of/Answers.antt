@@ -1,4 +1,4 @@
-use Rattle.std.proofs.Common.{◌≡◌, ap, ◌∙◌, arith}
+use Rattle.std.proofs.Common.{ap, ◌∙◌, arith}
 use Rattle.names.specs.Identifiers.{class, starts, digit}
 use Rattle.names.proofs.Table.{entry_by_rule}
 use Rattle.names.proofs.identifier.class_of.Goals as goal

@@ -1,4 +1,4 @@
-use Rattle.std.proofs.Common.{◌≡◌, not, eqb, ap, ◌∙◌}
+use Rattle.std.proofs.Common.{not, eqb, ap, ◌∙◌}
 use Rattle.names.proofs.Identifying.{class_goes_on}
 use Rattle.names.proofs.identifier.may_follow.Goals as goal
 

@@ -1,4 +1,4 @@
-use Rattle.std.proofs.Common.{◌≡◌, eqb, ap, ◌∙◌}
+use Rattle.std.proofs.Common.{eqb, ap, ◌∙◌}
 use Rattle.names.proofs.Identifying.{class_starts}
 use Rattle.names.proofs.identifier.may_start.Goals as goal
 

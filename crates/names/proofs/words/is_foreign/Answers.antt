@@ -1,4 +1,4 @@
-use Rattle.std.proofs.Common.{◌≡◌, sym, ◌∙◌}
+use Rattle.std.proofs.Common.{sym, ◌∙◌}
 use Rattle.names.proofs.Foreign.{foreign_here, foreign_later, foreign_nowhere}
 use Rattle.names.proofs.words.is_foreign.Goals as goal
 

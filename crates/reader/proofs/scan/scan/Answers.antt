@@ -1,6 +1,6 @@
-use Rattle.std.proofs.Common.{◌≡◌, ℕ, ◌+◌, ◌^◌, ◌<◌, List, length, get_or, drop, sym, ap, ◌∙◌, subst, arith}
+use Rattle.std.proofs.Common.{◌≡◌, ℕ, ◌+◌, List, get_or, drop, sym, ◌∙◌, subst, arith}
 use Rattle.pages.specs.declared.row.Row.{Row}
-use Rattle.grammar.specs.Scan.{Scan, Step, Memory, next, run, at_start}
+use Rattle.grammar.specs.Scan.{Step, Memory, run, at_start}
 use Rattle.reader.specs.View.{view, stepped, memory_of}
 use Rattle.reader.specs.declared.open.Effect.TheVariants.{Quiet, Text, Done, Unread}
 use Rattle.reader.proofs.Bounds.{Within, within_next}

@@ -1,4 +1,4 @@
-use Rattle.std.proofs.Common.{◌≡◌, ◌<◌, ◌≤◌, length, sym, ◌∙◌, inl, inr, arith}
+use Rattle.std.proofs.Common.{sym, ◌∙◌, inl, inr}
 use Rattle.reader.proofs.Fronts.{prefix_more, prefix_fails, prefix_ends}
 use Rattle.reader.proofs.word.begins.Goals as goal
 use Rattle.reader.proofs.word.begins.Goals.{then-i-name-via-then-i-name, then-i-name-via-else-i-name+then-name-i}

@@ -1,4 +1,4 @@
-use Rattle.std.proofs.Common.{◌≡◌, ℕ, Bool, true, false, List, get_or, sym, ap, ◌∙◌}
+use Rattle.std.proofs.Common.{◌≡◌, true, false, get_or, sym, ap, ◌∙◌}
 use Rattle.pages.specs.declared.kind.Kind.TheVariants.{Node}
 use Rattle.grammar.specs.Words.{word}
 use Rattle.grammar.specs.Scan.{prefix}

@@ -1,4 +1,4 @@
-use Rattle.std.proofs.Common.{◌≡◌, sym, ◌∙◌, arith}
+use Rattle.std.proofs.Common.{sym, ◌∙◌, arith}
 use Rattle.names.specs.Names.{bytes_of}
 use Rattle.spellers.proofs.Framing.{no_room_for_digits, number_of_more_digits, number_of_one_digit}
 use Rattle.spellers.proofs.debug.+numbered.Goals as goal

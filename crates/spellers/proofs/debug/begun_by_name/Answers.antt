@@ -1,5 +1,5 @@
-use Rattle.std.proofs.Common.{◌≡◌, ◌++◌, codes, sym, ◌∙◌, arith}
-use Rattle.spellers.proofs.Framing.{more_behind, no_mark, no_room_for_a_mark, no_room_for_a_name, with_mark}
+use Rattle.std.proofs.Common.{◌++◌, codes, sym, ◌∙◌, arith}
+use Rattle.spellers.proofs.Framing.{more_behind, no_room_for_a_mark, no_room_for_a_name, with_mark}
 use Rattle.spellers.proofs.debug.begun_by_name.Goals as goal
 
 pub returns-in_default : goal.returns-in_default

@@ -1,4 +1,4 @@
-use Rattle.std.proofs.Common.{◌≡◌, ◌++◌, codes, decimal, sym, ◌∙◌}
+use Rattle.std.proofs.Common.{◌++◌, codes, decimal, sym, ◌∙◌}
 use Rattle.spellers.proofs.Framing.{more_behind, still_too_long}
 use Rattle.spellers.proofs.debug.begun_by_number.Goals as goal
 

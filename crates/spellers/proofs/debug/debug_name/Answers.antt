@@ -1,5 +1,4 @@
-use Rattle.std.proofs.Common.{◌≡◌, ◌++◌, codes, sym, ap, ◌∙◌, append_assoc}
-use Rattle.names.specs.Names.{made_of}
+use Rattle.std.proofs.Common.{◌++◌, codes, sym, ◌∙◌}
 use Rattle.spellers.specs.Debugging.{debug_name, told}
 use Rattle.spellers.proofs.Framing.{more_behind, still_too_long}
 use Rattle.spellers.proofs.debug.debug_name.Goals as goal

@@ -1,5 +1,5 @@
 -- One halving: the middle row is before the key and so are all below it, or it is not and none above it is.
-use Rattle.std.proofs.Common.{◌+◌, ◌-◌, ◌/◌, sym, ◌∙◌, arith}
+use Rattle.std.proofs.Common.{sym, ◌∙◌, arith}
 use Rattle.table.proofs.Places.{Order, below_more, above_more}
 use Rattle.table.proofs.finding.place.Given as given
 use Rattle.table.proofs.finding.place.Goals as goal

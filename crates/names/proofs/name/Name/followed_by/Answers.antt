@@ -1,4 +1,4 @@
-use Rattle.std.proofs.Common.{◌≡◌, ◌<◌, ◌≤◌, ◌++◌, length, take, sym, ap, ◌∙◌, arith, length-append, length-take}
+use Rattle.std.proofs.Common.{◌≡◌, ◌++◌, length, ap, ◌∙◌, arith, length-append, length-take}
 use Rattle.names.specs.Names.{bytes_of, made_of}
 use Rattle.names.proofs.Filling.{followed_is_made, too_long_for_a_name}
 use Rattle.names.proofs.name.Name.followed_by.Goals as goal

@@ -1,4 +1,4 @@
-use Rattle.std.proofs.Common.{◌≡◌, ◌∙◌}
+use Rattle.std.proofs.Common.{◌∙◌}
 use Rattle.names.specs.Order.{less}
 use Rattle.names.proofs.Comparing.{less_from_lex}
 use Rattle.names.specs.Laws.{less_total}

@@ -1,4 +1,4 @@
-use Rattle.std.proofs.Common.{◌≡◌, true, false, ◌||◌, Some, sym, refl, ap, ◌∙◌}
+use Rattle.std.proofs.Common.{◌≡◌, Some, sym, refl, ap, ◌∙◌}
 use Rattle.pages.specs.declared.refusal.Refusal.TheVariants.{BadPin, Foreign}
 use Rattle.names.specs.Names.{made_of}
 use Rattle.options.specs.Giving.{less, name_of, pin_fault}

@@ -1,4 +1,4 @@
-use Rattle.std.proofs.Common.{◌≡◌, Some, None, sym, refl, ◌∙◌}
+use Rattle.std.proofs.Common.{◌≡◌, Some, sym, refl, ◌∙◌}
 use Rattle.names.specs.Names.{made_of}
 use Rattle.options.specs.Giving.{less, name_of, name_fault}
 use Rattle.options.proofs.Faults.{made_not_long, made_is, no_fault, gives_given}

@@ -1,4 +1,4 @@
-use Rattle.std.proofs.Common.{◌≡◌, ℕ, ◌+◌, ◌-◌, ◌<◌, ◌≤◌, List, length, get_or, Option, sym, refl, ap, ◌∙◌, arith}
+use Rattle.std.proofs.Common.{◌≡◌, ℕ, ◌-◌, List, get_or, Option, sym, ap, ◌∙◌, arith}
 use Rattle.grammar.specs.Scan as scan
 use Rattle.grammar.specs.Scan.{Phase, Step, Scan, close_bracket, phase_in}
 use Rattle.reader.specs.View.{view, unwound, no_open, phase_of}

@@ -1,4 +1,4 @@
-use Rattle.std.proofs.Common.{◌≡◌, ◌-◌, ◌<◌, ◌≤◌, length, get_or, refl, ap, ◌∙◌, arith}
+use Rattle.std.proofs.Common.{◌-◌, get_or, ap, arith}
 use Rattle.grammar.specs.Scan.{restacked, with_byte, with_text}
 use Rattle.reader.specs.View.{view, open_of, no_open}
 use Rattle.reader.proofs.Stack.{changed_innermost}

@@ -1,4 +1,4 @@
-use Rattle.std.proofs.Common.{◌≡◌, ℕ, ◌-◌, length, take, Some, None, sym, refl, ap, ◌∙◌, arith}
+use Rattle.std.proofs.Common.{◌≡◌, Some, None, sym, ap, ◌∙◌, arith}
 use Rattle.grammar.specs.Scan.{on_to, on_name, named, kind_named}
 use Rattle.reader.specs.View.{view, letters_of}
 use Rattle.reader.proofs.Moves.{letters_within}

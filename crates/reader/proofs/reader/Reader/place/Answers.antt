@@ -1,4 +1,4 @@
-use Rattle.std.proofs.Common.{◌≡◌, ℕ, ◌+◌, ◌-◌, ◌<◌, ◌≤◌, length, get_or, sym, refl, ap, ◌∙◌, arith}
+use Rattle.std.proofs.Common.{◌-◌, get_or, sym, ap, ◌∙◌}
 use Rattle.pages.specs.declared.shape.Place.TheVariants.{Child}
 use Rattle.reader.specs.View.{no_open}
 use Rattle.reader.proofs.Moves.{place_around}

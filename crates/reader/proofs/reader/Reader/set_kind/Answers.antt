@@ -1,4 +1,4 @@
-use Rattle.std.proofs.Common.{◌≡◌, ◌<◌, ◌≤◌, length, refl, ap, arith}
+use Rattle.std.proofs.Common.{refl, ap, arith}
 use Rattle.grammar.specs.Scan.{restacked, with_kind}
 use Rattle.reader.specs.View.{view}
 use Rattle.reader.proofs.Stack.{changed_innermost}

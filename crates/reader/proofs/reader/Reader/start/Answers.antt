@@ -1,4 +1,4 @@
-use Rattle.std.proofs.Common.{◌≡◌, ℕ, ◌+◌, ◌-◌, ◌<◌, ◌≤◌, length, get_or, sym, refl, ap, ◌∙◌, arith}
+use Rattle.std.proofs.Common.{sym, ap}
 use Rattle.grammar.specs.Scan.{start_of}
 use Rattle.reader.proofs.Stack.{unwound_pop}
 use Rattle.reader.proofs.reader.Reader.start.Goals as goal

@@ -1,4 +1,4 @@
-use Rattle.std.proofs.Common.{◌≡◌, ◌<◌, sym, subst, arith}
+use Rattle.std.proofs.Common.{◌<◌, subst, arith}
 use Rattle.reader.specs.Room.{High}
 use Rattle.reader.proofs.reader.Reader.take.Goals as goal
 

@@ -1,4 +1,4 @@
-use Rattle.std.proofs.Common.{◌≡◌, sym, ap, ◌∙◌, subst, arith}
+use Rattle.std.proofs.Common.{ap, ◌∙◌, arith}
 use Rattle.names.specs.Names.{made_of}
 use Rattle.spellers.specs.Debugging.{debug_name}
 use Rattle.spellers.specs.Debugged.{debug_edges, debug_fits, no_debug_name}

@@ -1,7 +1,4 @@
-use Rattle.std.proofs.Common.{◌≡◌, sym, ap, ◌∙◌, arith}
-use Rattle.std.specs.List.{slice_get}
-use Rattle.spellers.specs.Attempts.{attempts}
-use Rattle.spellers.specs.Lawful.{as_name}
+use Rattle.std.proofs.Common.{ap, ◌∙◌, arith}
 use Rattle.spellers.specs.Numbering.{short}
 use Rattle.spellers.specs.Shortening.{bytes_of_three_bytes, no_short_name, short_full, short_name}
 use Rattle.spellers.proofs.short.ShortSpellerSpeller.spell.Goals as goal

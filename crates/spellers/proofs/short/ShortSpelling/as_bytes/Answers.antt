@@ -1,4 +1,4 @@
-use Rattle.std.proofs.Common.{◌≡◌, arith}
+use Rattle.std.proofs.Common.{arith}
 use Rattle.table.proofs.Inserting.{take_within}
 use Rattle.spellers.proofs.short.ShortSpelling.as_bytes.Goals as goal
 

@@ -1,4 +1,4 @@
-use Rattle.std.proofs.Common.{◌≡◌, ℕ, ◌<◌, ◌≤◌, length, sym, refl, subst, arith}
+use Rattle.std.proofs.Common.{◌≤◌, length, refl, subst, arith}
 use Rattle.table.specs.Maps.{Ascending}
 use Rattle.table.specs.Rows.{rows}
 use Rattle.table.specs.Search.{Found, Missing}
