@@ -4,10 +4,10 @@
 usage: python3 tools/respell_names.py [--dry]      at the top of a repository whose names still join their words by dashes
 
 It collects each name with a dash that specs/ and proofs/ of a crate declare (a definition, a lemma, a field, a
-constructor, a name of a section), and writes it with underscores, or, where it begins with a capital letter, in camel
-case: in every .antt file, and in the clauses of every .rt file. Comments, strings, the names that Rattle makes of the
-code (the names of goals among them) and names that are imported from elsewhere stay. It stops, and writes nothing,
-where two names would fall together.
+constructor, a name of a section), and each that begins with a capital letter and has an underscore. It writes it with
+underscores, or, where it begins with a capital letter, in camel case: in every .antt file, and in the clauses of every
+.rt file. Comments, strings, the names that Rattle makes of the code (the names of goals among them) and names that are
+imported from elsewhere stay. It stops, and writes nothing, where two names would fall together.
 """
 import collections
 import glob
@@ -54,15 +54,19 @@ def declared():
             if not m or line.strip().startswith("--") or line.strip().startswith("let "):
                 continue
             name = m.group(1)
-            if "-" not in name.strip("-"):
+            if not is_older(name):
                 continue
             (made if MADE.search(line) else own[name]).add(name if MADE.search(line) else path)
     return {n: p for n, p in own.items() if n not in made}, made
 
 
+def is_older(name):
+    return "-" in name.strip("-") or (name[0].isupper() and "_" in name.strip("_"))
+
+
 def spelled(name):
     if name[0].isupper():
-        return "".join(w[:1].upper() + w[1:] for w in name.split("-"))
+        return "".join(w[:1].upper() + w[1:] for w in re.split("[-_]", name))
     return name.replace("-", "_")
 
 

@@ -1,7 +1,7 @@
 -- Where a reading breaks off, or ends before its root does, the bytes are no listing, and break off just there.
 use Rattle.std.proofs.Common.{◌≡◌, ℕ, suc, ◌+◌, ◌-◌, ◌<◌, ◌≤◌, List, [], ◌∷◌, ◌++◌, length, take, sym, refl, ap, ◌∙◌, subst, append_assoc, arith, length-append}
 use Rattle.pages.specs.Trees.{Tree}
-use Rattle.grammar.specs.Grammar.{Listing, Goes_on}
+use Rattle.grammar.specs.Grammar.{Listing, GoesOn}
 use Rattle.grammar.specs.Reading.{BreaksOff}
 use Rattle.grammar.specs.Scan.{after, Scan, unread, next, Memory, ended, broke, run, at_start}
 use Rattle.grammar.proofs.Runs.{ended_not_broke, ended_scan, run_unread, run_append, Broken, run_broken}
@@ -26,7 +26,7 @@ take_all (a ∷ u) = ap (λ x. a ∷ x) (take_all u)
 
 -- no listing goes on with a byte that is unread after these
 unread_ends : (u : List ℕ) (b : ℕ) (m : Memory) (a : Scan) (m' : Memory)
-    → run u at_start m ≡ ended a m' → (next a b).effect ≡ unread → Goes_on (u ++ b ∷ []) → ⊥
+    → run u at_start m ≡ ended a m' → (next a b).effect ≡ unread → GoesOn (u ++ b ∷ []) → ⊥
 unread_ends u b m a m' e h (q, (t, l)) =
     let (a2, m2, e2, p) = forward ((u ++ b ∷ []) ++ q) t m l in
     ended_not_broke a2 m2 (length q + 1)
@@ -42,8 +42,8 @@ broken_off s m k r e =
     ap (λ x. take x s) more ∙ (ap (take (suc (length r.front))) r.bytes_are ∙ take_one_more r.front r.byte r.back) in
     record {
       within = omega arith;
-      begun = subst Goes_on (sym before) (ended_goes_on r.front m r.scan r.memory r.front_ends);
-      stuck = λ h g. unread_ends r.front r.byte m r.scan r.memory r.front_ends r.byte_unread (subst Goes_on with g);
+      begun = subst GoesOn (sym before) (ended_goes_on r.front m r.scan r.memory r.front_ends);
+      stuck = λ h g. unread_ends r.front r.byte m r.scan r.memory r.front_ends r.byte_unread (subst GoesOn with g);
       no_listing = λ t l. let (a, m2, e2, p) = forward s t m l in ended_not_broke a m2 k (sym e2 ∙ e);
     }
 
@@ -62,7 +62,7 @@ pub short_breaks_off : (s : List ℕ) (m : Memory) (a : Scan) (m' : Memory)
 short_breaks_off s m a m' e open-still =
     record {
       within = omega arith;
-      begun = subst Goes_on (sym (take_all s)) (ended_goes_on s m a m' e);
+      begun = subst GoesOn (sym (take_all s)) (ended_goes_on s m a m' e);
       stuck = λ h g. omega arith;
       no_listing = λ t l.
           let (a2, m2, e2, p) = forward s t m l in

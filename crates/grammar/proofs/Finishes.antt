@@ -4,7 +4,7 @@ use Rattle.std.proofs.lemmas.Bool.{eqb-true, eq-eqb, or_cases, or_left, or_right
 use Rattle.pages.specs.declared.kind.Kind.{Kind}
 use Rattle.pages.specs.declared.row.Row.{Row}
 use Rattle.grammar.specs.Words.{word, kinds}
-use Rattle.grammar.specs.Grammar.{Goes_on}
+use Rattle.grammar.specs.Grammar.{GoesOn}
 use Rattle.grammar.specs.Scan.{Phase, before, opened, in_word, named, starting, in_start, started, in_flags, flags_done, in_text, escape, in_hex, inside, after, Open, Scan, Step, stuck, on_to, on_name, on_letter, quiet, text_byte, row_done, unread, next, prefix, same, some_begins, begun, first_named, kind_named, is_blank, phase_in, fault_after, with_kind, with_start, with_byte, Memory, applied, ended, run, at_start}
 use Rattle.grammar.specs.Reading.{zero_row}
 use Rattle.grammar.proofs.Back.{at}
@@ -200,7 +200,7 @@ finish p [] n by fl s = finish_outside p n by fl s
 finish p (e ∷ st) n by fl s = finish_within p e st n by fl s
 
 -- some listing begins with the bytes that a reading has read
-pub ended_goes_on : (s : List ℕ) (m : Memory) (a : Scan) (m' : Memory) → run s at_start m ≡ ended a m' → Goes_on s
+pub ended_goes_on : (s : List ℕ) (m : Memory) (a : Scan) (m' : Memory) → run s at_start m ≡ ended a m' → GoesOn s
 ended_goes_on s m a m' e =
     let sound : SoundScan a = run_sound s at_start m a m' e tt in
     let (q, a2, m2, e2, p) = finish a.phase a.stack a.nodes a.bytes a.fault sound m' in

@@ -5,18 +5,18 @@ use Rattle.std.proofs.lemmas.Bool.{cases_order}
 use Rattle.pages.specs.Trees.{Tree, nodes}
 use Rattle.pages.specs.Shape.{lawful, misshapen, Judged, whole, Lawful}
 use Rattle.pages.proofs.Verdicts.{judged_once}
-use Rattle.grammar.specs.Grammar.{Listing, Goes_on}
+use Rattle.grammar.specs.Grammar.{Listing, GoesOn}
 use Rattle.grammar.specs.Reading.{BreaksOff, Outcome, read, unread, misread, ComesTo, is_unread, is_misread, is_overfull, is_read, Fits}
 use Rattle.grammar.proofs.Shown.{listing_one_tree}
 
 -- what a listing begins with, one begins with the front of
-goes_on_front : (u v : List ℕ) → Goes_on (u ++ v) → Goes_on u
+goes_on_front : (u v : List ℕ) → GoesOn (u ++ v) → GoesOn u
 goes_on_front u v (q, (t, l)) = (v ++ q, (t, subst (λ x. Listing x t) (append_assoc u v q) l))
 
-goes_on_less : (i j : ℕ) (s : List ℕ) → i ≤ j → Goes_on (take j s) → Goes_on (take i s)
+goes_on_less : (i j : ℕ) (s : List ℕ) → i ≤ j → GoesOn (take j s) → GoesOn (take i s)
 goes_on_less i j s h g =
     goes_on_front (take i s) (drop i (take j s))
-    (subst Goes_on (sym (take-append-drop i (take j s)) ∙ ap (λ x. x ++ drop i (take j s)) (take-take i j s h)) g)
+    (subst GoesOn (sym (take-append-drop i (take j s)) ∙ ap (λ x. x ++ drop i (take j s)) (take-take i j s h)) g)
 
 one_before : (s : List ℕ) (p q : ℕ) → BreaksOff s p → BreaksOff s q → p < q → ⊥
 one_before s p q x y h =

@@ -139,5 +139,5 @@ pub record Listing (s : List ℕ) (t : Tree) : Type 0 where
   pub height_is : height root ≤ 64
 
 -- some listing begins with these bytes
-abbrev pub Goes_on : List ℕ → Type 0
-Goes_on s = (q : List ℕ) × ((t : Tree) × Listing (s ++ q) t)
+abbrev pub GoesOn : List ℕ → Type 0
+GoesOn s = (q : List ℕ) × ((t : Tree) × Listing (s ++ q) t)

@@ -5,14 +5,14 @@ use Rattle.pages.specs.declared.row.Part.{Part}
 use Rattle.pages.specs.declared.row.Row.{Row}
 use Rattle.pages.specs.Trees.{Text, without, bytes, astray, Tree, Node, nodes}
 use Rattle.pages.specs.Shape.{Lawful, Judged, misshapen}
-use Rattle.grammar.specs.Grammar.{Listing, Goes_on}
+use Rattle.grammar.specs.Grammar.{Listing, GoesOn}
 
 -- Bytes that are no listing break off at a place: some listing begins with the bytes before it, and none
 -- goes on with the byte there; where the bytes end first, the place is their number.
 pub record BreaksOff (s : List ℕ) (place : ℕ) : Type 0 where
   pub within : place ≤ length s
-  pub begun : Goes_on (take place s)
-  pub stuck : place < length s → Goes_on (take (place + 1) s) → ⊥
+  pub begun : GoesOn (take place s)
+  pub stuck : place < length s → GoesOn (take (place + 1) s) → ⊥
   pub no_listing : (t : Tree) → Listing s t → ⊥
 
 -- the bytes of a node's text
