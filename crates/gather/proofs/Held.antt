@@ -19,7 +19,7 @@ use Rattle.gather.specs.Counting.{Clean, HoldsCounts, HoldsTexts, counted_times,
 use Rattle.gather.specs.Faults.{AllRight}
 use Rattle.tally.specs.Counts.{count_sum}
 use Rattle.gather.specs.Filling.{tallied, unit_sum}
-use Rattle.tally.proofs.Together.{length_inserted as inserted-length}
+use Rattle.tally.proofs.Together.{length_inserted as inserted_length}
 use Rattle.gather.proofs.Naming.{names_order}
 use Rattle.gather.proofs.Tallying.{tallied_append}
 
@@ -243,7 +243,7 @@ module _ {V : Type 0} (sum : V → V → V) (value : V) where
       more ns n e =
           ap (λ ms. length (tallied sum value ms [])) (map-append name_of ns (n ∷ []))
           ∙ (ap length (tallied_append sum value (map name_of ns) (name_of n ∷ []) [])
-          ∙ (inserted-length before names_order (name_of n) (summed sum (lookup before (name_of n) (tallied sum value (map name_of ns) [])) value) (tallied sum value (map name_of ns) []) (tallied_ascending sum value (map name_of ns) [] (ascending_none before))
+          ∙ (inserted_length before names_order (name_of n) (summed sum (lookup before (name_of n) (tallied sum value (map name_of ns) [])) value) (tallied sum value (map name_of ns) []) (tallied_ascending sum value (map name_of ns) [] (ascending_none before))
           ∙ (ap (λ o. grown o (length (tallied sum value (map name_of ns) []))) (tallied_has sum value n ns [])
           ∙ (grown_from_none (times n ns) (length (tallied sum value (map name_of ns) []))
           ∙ (ap (λ x. cond (eqb (times n ns) 0) (x + 1) x) e ∙ sym (different_last ns n))))))

@@ -34,7 +34,7 @@ far places d n (suc gap) i j e h =
 
 pub all_ascend : (places : Places) (i : ℕ) → length places ≤ i → Neighbours places i → Ascending ltb places
 all_ascend places end h n =
-    record { ordered = λ i j d lt in-places. lt-ltb _ _ (far places d (record { next = λ k d' g. n.next k d' (omega arith) }) (j - i - 1) i j (omega arith) in-places) }
+    record { ordered = λ i j d lt in_places. lt-ltb _ _ (far places d (record { next = λ k d' g. n.next k d' (omega arith) }) (j - i - 1) i j (omega arith) in_places) }
 
 pub not_ascending : (places : Places) (i : ℕ) (d : Entry ℕ (Unit {0})) → 1 ≤ i → i < length places → (get_or places i d).key ≤ (get_or places (i - 1) d).key → Ascending ltb places → ⊥
 not_ascending places i d one h le a = omega (arith, ltb-true _ _ (a.ordered (i - 1) i d (omega arith) h))

@@ -5,9 +5,9 @@ use Rattle.names.specs.declared.name.Name.{Name}
 use Rattle.names.specs.Names.{before}
 use Rattle.table.specs.declared.table.Entry.{Entry}
 use Rattle.table.specs.declared.table.Table.{Table}
-use Rattle.table.specs.Calls.{Refused, grown as grown-rows}
+use Rattle.table.specs.Calls.{Refused, grown as grown_rows}
 use Rattle.tally.specs.Calls.{Added}
-use Rattle.tally.proofs.Together.{length_inserted as inserted-length}
+use Rattle.tally.proofs.Together.{length_inserted as inserted_length}
 use Rattle.table.specs.Maps.{equivalent, inserted, lookup}
 use Rattle.table.specs.Rows.{memory, rows, SameMemory, Sound}
 use Rattle.table.proofs.Standing.{sound_length}
@@ -73,12 +73,12 @@ module _ {V : Type 0} (sum : V → V → V) (value : V) where
         out = λ h. inl h;
       }
     where
-      rows_now : length (rows t') ≡ grown-rows (lookup before name (rows t)) (length (rows t))
-      rows_now = ap length a.now_rows ∙ inserted-length before names_order name (summed sum (lookup before name (rows t)) value) (rows t) s.ascending
+      rows_now : length (rows t') ≡ grown_rows (lookup before name (rows t)) (length (rows t))
+      rows_now = ap length a.now_rows ∙ inserted_length before names_order name (summed sum (lookup before name (rows t)) value) (rows t) s.ascending
 
       room_for : (o : Option V) → lookup before name (rows t) ≡ o → length (rows t) ≤ room t → length (rows t') ≤ room t
-      room_for None is h = omega (arith, rows_now ∙ ap (λ p. grown-rows p (length (rows t))) is, a.had_room is, sound_length before t s)
-      room_for (Some old) is h = omega (arith, rows_now ∙ ap (λ p. grown-rows p (length (rows t))) is)
+      room_for None is h = omega (arith, rows_now ∙ ap (λ p. grown_rows p (length (rows t))) is, a.had_room is, sound_length before t s)
+      room_for (Some old) is h = omega (arith, rows_now ∙ ap (λ p. grown_rows p (length (rows t))) is)
 
   -- there is no row left for one more
   pub fills_full : (name : Name) (t t' : Table Name V) (limit : ℕ) → limit ≡ 4096 → t' ≡ t → Sound before t → Refused before limit name t → (full : Bool) → Fills sum value (name ∷ []) t t' full true

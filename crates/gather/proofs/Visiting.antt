@@ -21,16 +21,16 @@ text_of_part s o p t e no_stray is = elim (cases_Bool (leb (p.offset + p.length)
 ]
 
 module _ (s : Setting) (text : List ℕ) (row : Row) (w : Bool) (p : Part) (t : List ℕ) (at_place : Bool) (found : Role) (has : row.text ≡ Some p)
-    (no_stray : text_in text row.text ≡ astray → ⊥) (part-is : t ≡ take (p.offset + p.length - p.offset) (drop p.offset text))
-    (place_is : at_place ≡ is_place s.places row.start) (role-is : found ≡ role row.kind at_place w s.options) where
+    (no_stray : text_in text row.text ≡ astray → ⊥) (part_is : t ≡ take (p.offset + p.length - p.offset) (drop p.offset text))
+    (place_is : at_place ≡ is_place s.places row.start) (role_is : found ≡ role row.kind at_place w s.options) where
   found_is : found ≡ role_of s (position text row w)
-  found_is = role-is ∙ ap (λ a. role row.kind a w s.options) place_is
+  found_is = role_is ∙ ap (λ a. role row.kind a w s.options) place_is
 
   counted_is : text_if found.counted (bytes t) ≡ counted_at s (position text row w)
-  counted_is = λ i. text_if (found_is i).counted (sym (text_of_part text row.text p t has no_stray part-is) i)
+  counted_is = λ i. text_if (found_is i).counted (sym (text_of_part text row.text p t has no_stray part_is) i)
 
   occupied_is : text_if found.occupied (bytes t) ≡ occupied_at s (position text row w)
-  occupied_is = λ i. text_if (found_is i).occupied (sym (text_of_part text row.text p t has no_stray part-is) i)
+  occupied_is = λ i. text_if (found_is i).occupied (sym (text_of_part text row.text p t has no_stray part_is) i)
 
   pub taken_in : (node : ℕ) (c c' : PropertyMangleCollection) (l l' : Shortfall) (r : Result (Unit {0}) Refusal) → TakesIn (text_if found.counted (bytes t)) (text_if found.occupied (bytes t)) node c c' l l' r → TakesIn (counted_at s (position text row w)) (occupied_at s (position text row w)) node c c' l l' r
   taken_in node c c' l l' r h =

@@ -6,7 +6,7 @@ use Rattle.pages.specs.declared.refusal.Refusal.{Refusal}
 use Rattle.pages.specs.declared.row.Flags.{Flags}
 use Rattle.pages.specs.declared.row.Row.{Row}
 use Rattle.pages.specs.declared.kind.Kind.{Kind}
-use Rattle.pages.specs.declared.kind.Kind.TheVariants.{Node as Node-kind}
+use Rattle.pages.specs.declared.kind.Kind.TheVariants.{Node as NodeKind}
 use Rattle.pages.specs.declared.shape.Place.TheVariants.{Child}
 use Rattle.pages.specs.Trees.{astray, Tree, Forest, tree, none, more, count, Node, nodes, nodes_all, shown, shows, text_in}
 use Rattle.pages.specs.Shape.{All, Fine, visits, visits_all}
@@ -182,7 +182,7 @@ module _ {rows : List Row} {text : List ℕ} {row number : ℕ} (b : Brood rows 
 abbrev pub zero_row : Row
 zero_row =
     record {
-      kind = Node-kind;
+      kind = NodeKind;
       flags = record { optional = false; computed = false; shorthand = false };
       start = 0;
       text = None;

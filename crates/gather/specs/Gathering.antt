@@ -69,10 +69,10 @@ size page c =
     }
 
 -- A table that is emptied, in the same memory: every entry that it was lent is zero.
-pub record Emptied {V : Type 0} (zero-value : V) (before after : Table Name V) : Type 0 where
+pub record Emptied {V : Type 0} (zero_value : V) (before after : Table Name V) : Type 0 where
   pub no_rows : after.len ≡ 0
   pub lent : after.entries.ghost_name ≡ before.entries.ghost_name
-  pub zeros : memory after ≡ replicate (length (memory before)) (record { key = name_of []; value = zero-value })
+  pub zeros : memory after ≡ replicate (length (memory before)) (record { key = name_of []; value = zero_value })
 
 -- Both tables hold what the tree's positions count and occupy, and the counts sum to the number of positions that count;
 -- what lies past the rows is as it was.

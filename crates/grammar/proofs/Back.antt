@@ -91,13 +91,13 @@ back_between : (G : ℕ → Type 0) (e : Open) (st : List Open) (n by : ℕ) (fl
     → ((b : Blank) → Inner p' (suc (length st)) e.row.start e.row.flags s → G (blank b))
     → ((b : ℕ) → Tail (suc (length st)) (b ∷ s) → G b)
     → (b : ℕ) → Back (G b) s (between p' (at p (e ∷ st) n by fl) b)
-back_between G e st n by fl p p' s on-blank on-bracket b =
+back_between G e st n by fl p p' s on_blank on_bracket b =
     back_cond (G b) s (is_blank b) _ _
-    (λ q h r. at_blank G (λ k. on-blank k r) b q)
+    (λ q h r. at_blank G (λ k. on_blank k r) b q)
     (λ q. back_cond (G b) s (eqb b 40) _ _
-    (λ q2. back_open (G b) (e ∷ st) n by fl p s (λ f. at_byte G 40 (on-bracket 40 (form_tail (length st) (40 ∷ s) f)) b q2))
+    (λ q2. back_open (G b) (e ∷ st) n by fl p s (λ f. at_byte G 40 (on_bracket 40 (form_tail (length st) (40 ∷ s) f)) b q2))
     (λ q2. back_cond (G b) s (eqb b 41) _ _
-    (λ q3. back_close (G b) e st (at p (e ∷ st) n by fl) s (λ t. at_byte G 41 (on-bracket 41 t) b q3))
+    (λ q3. back_close (G b) e st (at p (e ∷ st) n by fl) s (λ t. at_byte G 41 (on_bracket 41 t) b q3))
     (λ q3 h r. absurd (h refl))))
 
 -- phase by phase

@@ -59,12 +59,12 @@ broke_left s m k e =
 
 pub short_breaks_off : (s : List ℕ) (m : Memory) (a : Scan) (m' : Memory)
     → run s at_start m ≡ ended a m' → (a.phase ≡ after → ⊥) → BreaksOff s (length s)
-short_breaks_off s m a m' e open-still =
+short_breaks_off s m a m' e open_still =
     record {
       within = omega arith;
       begun = subst GoesOn (sym (take_all s)) (ended_goes_on s m a m' e);
       stuck = λ h g. omega arith;
       no_listing = λ t l.
           let (a2, m2, e2, p) = forward s t m l in
-          open-still (ap (λ x. x.phase) (ended_scan a a2 m' m2 (sym e ∙ e2)) ∙ p);
+          open_still (ap (λ x. x.phase) (ended_scan a a2 m' m2 (sym e ∙ e2)) ∙ p);
     }

@@ -140,9 +140,9 @@ finish_word : {k : Kind} (v w : List ℕ) → Among k kinds → word k ≡ w ++ 
     → (e : Open) (st : List Open) (n by : ℕ) (fl : Option ℕ) → Finishes (at (in_word w) (e ∷ st) n by fl)
 unfolding kind_named begun
 finish_word [] w i q e st n by fl =
-    let (j, named-is) = named_among w i (sym (q ∙ append-nil w)) in
+    let (j, named_is) = named_among w i (sym (q ∙ append-nil w)) in
     finish_as (at (in_word w) (e ∷ st) n by fl) 32 (on_name (Some j) (at (in_word w) (e ∷ st) n by fl))
-    (ap (λ o. on_name o (at (in_word w) (e ∷ st) n by fl)) named-is) quiet_read (finish_named (with_kind j e) st n by fl)
+    (ap (λ o. on_name o (at (in_word w) (e ∷ st) n by fl)) named_is) quiet_read (finish_named (with_kind j e) st n by fl)
 finish_word (c ∷ v) w i q e st n by fl =
     let whole = q ∙ sym (append_assoc w (c ∷ []) v) in
     let letter : is_blank c ≡ false = plain_at w c v (subst (λ x. plain x ≡ true) q (plain_among i refl)) in

@@ -356,12 +356,12 @@ module _ (s : List Open) (n b : ℕ) (f : Option ℕ) (m : Memory) where
       → run (head h r) (scan opened (record { row = zero_row; number = j } ∷ s) n b f) m ≡ X
   head_read j h r X goes =
       let rest : List ℕ = flag_part h.flags (text_part h.text r) in
-      let digits-on : List ℕ = decimal h.start ++ rest in
+      let digits_on : List ℕ = decimal h.start ++ rest in
       let e : Open = record { row = zero_row; number = j } in
-      gap_kept (e ∷ s) n b f m at_opened h.before_kind (word h.kind ++ (blank h.after_kind ∷ gap h.before_start (64 ∷ digits-on)))
-      ∙ word_read (e ∷ s) n b f m h.kind (blank h.after_kind ∷ gap h.before_start (64 ∷ digits-on))
-      ∙ name_read s n b f m e h.kind h.after_kind (gap h.before_start (64 ∷ digits-on))
-      ∙ gap_kept (entry h.kind no_flags 0 None 0 j ∷ s) n b f m at_named h.before_start (64 ∷ digits-on)
-      ∙ at_sign_read (entry h.kind no_flags 0 None 0 j ∷ s) n b f m digits-on
+      gap_kept (e ∷ s) n b f m at_opened h.before_kind (word h.kind ++ (blank h.after_kind ∷ gap h.before_start (64 ∷ digits_on)))
+      ∙ word_read (e ∷ s) n b f m h.kind (blank h.after_kind ∷ gap h.before_start (64 ∷ digits_on))
+      ∙ name_read s n b f m e h.kind h.after_kind (gap h.before_start (64 ∷ digits_on))
+      ∙ gap_kept (entry h.kind no_flags 0 None 0 j ∷ s) n b f m at_named h.before_start (64 ∷ digits_on)
+      ∙ at_sign_read (entry h.kind no_flags 0 None 0 j ∷ s) n b f m digits_on
       ∙ number_read s n b f m (entry h.kind no_flags 0 None 0 j) h.start rest h.start_fits
       ∙ parts_read h.kind h.start 0 j h.flags h.text r X goes

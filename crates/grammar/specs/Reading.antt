@@ -1,6 +1,6 @@
 -- What a reading of a listing gives.
 use Rattle.std.specs.Prelude.{ℕ, ◌+◌, ◌<◌, ◌≤◌, false, List, [], ◌∷◌, ◌++◌, length, take, drop, replicate, Some, None, Option}
-use Rattle.pages.specs.declared.kind.Kind.TheVariants.{Node as Node-kind}
+use Rattle.pages.specs.declared.kind.Kind.TheVariants.{Node as NodeKind}
 use Rattle.pages.specs.declared.row.Part.{Part}
 use Rattle.pages.specs.declared.row.Row.{Row}
 use Rattle.pages.specs.Trees.{Text, without, bytes, astray, Tree, Node, nodes}
@@ -52,7 +52,7 @@ pub record Fits (t : Tree) (rows text : ℕ) : Type 0 where
 abbrev pub zero_row : Row
 zero_row =
     record {
-      kind = Node-kind;
+      kind = NodeKind;
       flags = record { optional = false; computed = false; shorthand = false };
       start = 0;
       text = None;

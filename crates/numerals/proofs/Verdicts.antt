@@ -4,7 +4,7 @@ use Rattle.std.proofs.lemmas.Bool.{cond_both, false≢true, both_ways, ltb-true,
 use Rattle.numerals.specs.declared.form.Form.{Form}
 use Rattle.numerals.specs.declared.form.Form.TheVariants.{Other, Short, Long}
 use Rattle.numerals.specs.Numeral.{Number, nought, finite, Numeral, Far, HasForm, HasLongForm, Canonical, of_number, negative_nought, not_a_number, infinite, negative_infinite}
-use Rattle.numerals.specs.Numeral.{Long as Is-long}
+use Rattle.numerals.specs.Numeral.{Long as IsLong}
 use Rattle.numerals.specs.Deciding.{text_form, Special}
 use Rattle.numerals.proofs.Shapes.{far}
 use Rattle.numerals.proofs.Readings.{number_form, reading, Reads, reading_right, reading_found, form_is, one_number}
@@ -13,7 +13,7 @@ use Rattle.numerals.proofs.Readings.{number_form, reading, Reads, reading_right,
 pub record HasShortForm (s : List ℕ) : Type 0 where
   pub number : Number
   pub numeral : Numeral s number
-  pub short : Is-long number → ⊥
+  pub short : IsLong number → ⊥
 
 abbrev Says : List ℕ → Form → Type 0
 Says s Other = HasForm s → ⊥
@@ -69,7 +69,7 @@ module _ (s : List ℕ) where
   pub short_not_long : Short ≡ text_form s → HasLongForm s → ⊥
   short_not_long e h =
       let k = says s Short e in
-      k.short (subst Is-long (one_number s h.number k.number h.numeral k.numeral) h.long)
+      k.short (subst IsLong (one_number s h.number k.number h.numeral k.numeral) h.long)
 
   pub short_canonical : Short ≡ text_form s → Canonical s
   short_canonical e = let h = says s Short e in of_number h.number h.numeral h.short
@@ -101,7 +101,7 @@ module _ (s : List ℕ) where
   long_canonical r e =
       canonical_like r (λ h.
       let k = says s Long e in
-      h.short (subst Is-long (one_number s k.number h.number k.numeral h.numeral) k.long))
+      h.short (subst IsLong (one_number s k.number h.number k.numeral h.numeral) k.long))
 
 pub decides_false : {P : Type 0} → (P → ⊥) → Decides false P
 decides_false h = (λ e. absurd (false≢true e), λ p. absurd (h p))

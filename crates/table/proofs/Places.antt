@@ -43,11 +43,11 @@ module _ {K V : Type 0} (less : K → K → Bool) (laws : Order less) (key : K) 
       row_is d = get_or_read rows m row lt is d
 
       later : (i : ℕ) (d : Entry K V) → m < i → i < length rows → less row.key (get_or rows i d).key ≡ true
-      later i d h lt-i = subst (λ (x : Entry K V). less x.key (get_or rows i d).key ≡ true) (sym (row_is d)) (up.ordered m i d h lt-i)
+      later i d h lt_i = subst (λ (x : Entry K V). less x.key (get_or rows i d).key ≡ true) (sym (row_is d)) (up.ordered m i d h lt_i)
 
       here : (i : ℕ) (d : Entry K V) → m ≤ i → i < length rows → less (get_or rows i d).key key ≡ false
-      here i d h lt-i =
+      here i d h lt_i =
           ⊎_elim
           (λ e. subst (λ (j : ℕ). less (get_or rows j d).key key ≡ false) (sym e) (subst (λ (x : Entry K V). less x.key key ≡ false) (row_is d) l))
-          (λ ne. false_since _ (λ t. both_ways _ l (laws.transitive _ _ key (later i d (omega arith) lt-i) t)))
+          (λ ne. false_since _ (λ t. both_ways _ l (laws.transitive _ _ key (later i d (omega arith) lt_i) t)))
           (cases_eq i m)
