@@ -4,10 +4,11 @@
 usage: python3 tools/respell_names.py [--dry]      at the top of a repository whose names still join their words by dashes
 
 It collects each name with a dash that specs/ and proofs/ of a crate declare (a definition, a lemma, a field, a
-constructor, a name of a section), and each that begins with a capital letter and has an underscore. It writes it with
-underscores, or, where it begins with a capital letter, in camel case: in every .antt file, and in the clauses of every
-.rt file. Comments, strings, the names that Rattle makes of the code (the names of goals among them) and names that are
-imported from elsewhere stay. It stops, and writes nothing, where two names would fall together.
+constructor, a name of a section, another name of an import), and each that begins with a capital letter and has an
+underscore. It writes it with underscores, or, where it begins with a capital letter, in camel case: in every .antt
+file, and in the clauses of every .rt file. Comments, strings, the names that Rattle makes of the code (the names of
+goals among them) and names that are imported from elsewhere stay. It stops, and writes nothing, where two names would
+fall together.
 """
 import collections
 import glob
@@ -17,6 +18,7 @@ import sys
 DELIMITERS = r"\s(){}\[\];,.:\"@`"
 TOKEN = re.compile(r"[^%s]+" % DELIMITERS)
 DECLARED = re.compile(r"^\s*(?:(?:abbrev|pub|unfoldable|data|record|private)\s+)*([^%s]+) (?:[^:]*)?:" % DELIMITERS)
+ALIAS = re.compile(r" as ([^%s]+)" % DELIMITERS)
 MADE = re.compile(r":\s*(?:goal|given|need)\.")
 
 
@@ -50,6 +52,9 @@ def declared():
     own, made = collections.defaultdict(set), set()
     for path in files(".antt"):
         for line in lines(path):
+            if line.startswith("use "):
+                for name in filter(is_older, ALIAS.findall(line)):
+                    own[name].add(path)
             m = DECLARED.match(line)
             if not m or line.strip().startswith("--") or line.strip().startswith("let "):
                 continue
