@@ -13,7 +13,7 @@ attempt_mark (suc k) = codes "$" ++ decimal (suc k)
 abbrev pub told : List ℕ → ℕ → List ℕ
 told original attempt = cond (identifier original) (original ++ attempt_mark attempt) (codes "property" ++ decimal attempt)
 
--- the debug spelling of a name at an attempt: `◌$`, what tells it apart, and `$◌`
+-- the debug spelling of a name at an attempt: `_$`, what tells it apart, and `$_`
 unfoldable pub debug_name : List ℕ → ℕ → List ℕ
 debug_name original attempt = codes "_$" ++ (told original attempt ++ codes "$_")
 

@@ -1,4 +1,4 @@
--- What writing bytes into a memory from a place on comes to.
+-- What writing bytes into a memory from a place on comes to: what the private steps are held to. No public promise rests on it.
 use Rattle.std.specs.Prelude.{◌≡◌, ℕ, ◌+◌, ◌<◌, ◌≤◌, List, length, Some, None, Option}
 use Rattle.std.proofs.lemmas.List.Edits.{sets}
 

@@ -1,4 +1,4 @@
--- A tree that stands in rows, and the writing of its form.
+-- A tree that stands in rows, and the writing of its form: what the private walk is held to. No public promise rests on it.
 use Rattle.std.specs.Prelude.{◌≡◌, ℕ, ◌+◌, ◌^◌, ◌<◌, List, [], ◌++◌, length, drop, Some, None, Option, slice_index}
 use Rattle.pages.specs.declared.row.Row.{Row}
 use Rattle.pages.specs.declared.shape.Place.{Place}
