@@ -1,9 +1,9 @@
 #!/usr/bin/env python3
-"""Lists the places in src/ that are candidates for a plainer form, point by point, and counts them.
+"""Lists the places in src/ that are candidates for a plainer form, kind by kind, and counts them.
 
-    tools/count_forms.py [--at COMMIT] [POINT ..]
+    tools/count_forms.py [--at COMMIT] [KIND ..]
 
-Each point has its patterns below. A row is a place to read, not a verdict: docs/DESIGN-PASS.md says of each what became of it.
+Each kind has its patterns below, in the function of its name. A row is a place to read, not a verdict: docs/DESIGN-PASS.md says what became of each.
 """
 import itertools
 import re
@@ -74,7 +74,7 @@ def matches(pattern, name, text, flags=0):
         yield name, line_of(text, m.start()), " ".join(m.group().split())[:100]
 
 
-def point_1(name, text):
+def results(name, text):
     """Results and options passed on by hand, enums with a case for nothing or a fault, flags beside a value, numbers for kinds."""
     yield from matches(r"Err\(\w+\) => (?:return )?Err\([^,\n]*", name, text)
     yield from matches(r"None => (?:return )?Err\([^,\n]*", name, text)
@@ -87,7 +87,7 @@ def point_1(name, text):
     yield from matches(r"Err\(AllocError\)", name, text)
 
 
-def point_3(name, text):
+def indexes(name, text):
     """Loops that count an index: every while, and each for over a range or with enumerate whose number is an index."""
     yield from matches(r"\bwhile [^{]*\{", name, text)
     for m in re.finditer(r"for (\w+|\(\w+, \w+\)) in ([^{]*?)\s*\{", text):
@@ -98,7 +98,7 @@ def point_3(name, text):
             yield name, line_of(text, m.start()), m.group()
 
 
-def point_4(name, text):
+def by_hand(name, text):
     """Equality, order, conversion and printing by hand, by the names that such functions have here."""
     yield from matches(
         r"fn (?:is|is_before|is_word|is_name|same|number|place|class_of|kind_name|named|hex_digit|push_letter|push_quoted|entry_line|refusal_line|nameless|all_rows|all_bytes|begins)\(",
@@ -107,7 +107,7 @@ def point_4(name, text):
     yield from matches(r"pub const (?:NO_FLAGS|CLEARED|NAMELESS)\b", name, text)
 
 
-def point_6(name, text):
+def buffers(name, text):
     """Arrays and lent slices with a length beside, and searches over sorted rows."""
     for m in re.finditer(r"struct (\w+)[^{;]*\{([^}]*)\}", text):
         fields = re.findall(r"(\w+): ([^\n]+),", m.group(2))
@@ -118,7 +118,7 @@ def point_6(name, text):
     yield from matches(r"low \+ \(high - low\) / 2", name, text)
 
 
-def point_7(name, text):
+def switches(name, text):
     """Functions with a bool among their parameters, and enums that say what comes next."""
     for function, at, _, parameters in functions(text):
         if re.search(r": (?:&mut )?bool\b", parameters):
@@ -126,7 +126,7 @@ def point_7(name, text):
     yield from matches(r"enum (?:Mode|Wanted|State)\b", name, text)
 
 
-def point_2(all_files):
+def twins(all_files):
     """Functions of one shape: the same body but for names, numbers, strings and types."""
     shapes = {}
     for name, text in all_files:
@@ -144,7 +144,7 @@ def point_2(all_files):
             yield "", 0, ""
 
 
-def point_5(all_files):
+def together(all_files):
     """Parameters that stand together in three functions of a crate or more, and facts that three contracts of a crate ask for."""
     pairs, facts = {}, {}
     for name, text in all_files:
@@ -163,7 +163,7 @@ def point_5(all_files):
             yield crate, len(where), f"requires {fact}: {' '.join(sorted(where))}"
 
 
-def point_8(commit):
+def answers(commit):
     """Answers, and lines of proofs, of each crate."""
     answers, lines = {}, {}
     for name, text in files(commit, "proofs", "antt"):
@@ -175,21 +175,25 @@ def point_8(commit):
         yield crate, answers.get(crate, 0), f"answers, {lines[crate]} lines of proofs"
 
 
+KINDS = {find.__name__: find for find in (results, twins, indexes, by_hand, together, buffers, switches, answers)}
+
+
 def main():
     words = sys.argv[1:]
     commit = None
     if words[:1] == ["--at"]:
         commit, words = words[1], words[2:]
-    wanted = words or list("12345678")
     all_files = [(n, without_comments(t)) for n, t in files(commit, "src", "rt")]
-    for point in wanted:
-        if point in "25":
-            rows = list({"2": point_2, "5": point_5}[point](all_files))
-        elif point == "8":
-            rows = list(point_8(commit))
+    for kind in words or list(KINDS):
+        find = KINDS[kind]
+        if find is answers:
+            rows = list(answers(commit))
+        elif find in (twins, together):
+            rows = list(find(all_files))
         else:
-            rows = [r for n, t in all_files for r in globals()[f"point_{point}"](n, t)]
-        print(f"== {point}: {len([r for r in rows if r[0]])}")
+            rows = [row for name, text in all_files for row in find(name, text)]
+        total = sum(row[1] for row in rows) if find is answers else len([row for row in rows if row[0]])
+        print(f"== {kind}: {total}")
         for row in rows:
             print("{}:{}: {}".format(*row) if row[0] else "")
 

@@ -2,8 +2,8 @@
 use Rattle.std.proofs.Common.{◌≡◌, ℕ, zero, suc, ◌+◌, ◌-◌, ◌<◌, ◌≤◌, min, Bool, true, false, cond, eqb, leb, List, [], ◌∷◌, ◌++◌, map, length, get_or, replicate, Some, None, Option, sym, refl, ap, ◌∙◌, subst, inl, inr, append_assoc, add-one, arith}
 use Rattle.std.specs.Str.{bytes_eq}
 use Rattle.std.proofs.lemmas.Slice.Eq.{bytes_eq-Decides}
-use Rattle.std.proofs.lemmas.List.{append-nil, length-map, length-take, map-append, take_at}
-use Rattle.std.proofs.lemmas.Bool.{and_parts, both_ways, cases_Bool, cond_both, cond-false, cond-true, false≢true, le-ltb, leb-true, ne_eqb, not-true, true≢false}
+use Rattle.std.proofs.lemmas.List.{append-nil, length-map, map-append, take_at}
+use Rattle.std.proofs.lemmas.Bool.{false_from_ne_true as false_since, and_parts, both_ways, cases_Bool, cond_both, cond-false, cond-true, false≢true, le-ltb, leb-true, ne_eqb, not-true, true≢false}
 use Rattle.std.proofs.lemmas.Bool.Decides.{same_from_decides, nat_tests}
 use Rattle.names.specs.declared.name.Name.{Name}
 use Rattle.names.specs.Names.{before, bytes_of, long, name_of}
@@ -13,11 +13,12 @@ use Rattle.table.specs.declared.table.Entry.{Entry}
 use Rattle.table.specs.Calls.{grown}
 use Rattle.table.specs.Maps.{Ascending, equivalent, inserted, lookup}
 use Rattle.table.proofs.Mapping.{after_apart, ascending_head, ascending_inserted, ascending_none, ascending_tail, before_apart, equivalent_from, looked_up, lookup_none, not_both}
-use Rattle.table.proofs.Places.{Order, false_since}
+use Rattle.table.proofs.Places.{Order}
 use Rattle.tally.specs.Sums.{summed}
-use Rattle.gather.specs.Counting.{Clean, HoldsCounts, HoldsTexts, counted_times, different, found, kept, sum_of, there, times}
+use Rattle.gather.specs.Counting.{Clean, HoldsCounts, HoldsTexts, counted_times, different, kept, sum_of, times}
+use Rattle.options.specs.Giving.{found}
 use Rattle.gather.specs.Faults.{AllRight}
-use Rattle.tally.specs.Counts.{count_sum}
+use Rattle.tally.specs.Counts.{count_sum, there_of}
 use Rattle.gather.specs.Filling.{tallied, unit_sum}
 use Rattle.tally.proofs.Together.{length_inserted as inserted_length}
 use Rattle.gather.proofs.Naming.{names_order}
@@ -157,7 +158,7 @@ there_on zero = refl
 there_on (suc m) = there_on m
 
 -- texts from nothing
-there_from_none : (m : ℕ) → repeated unit_sum tt None m ≡ there m
+there_from_none : (m : ℕ) → repeated unit_sum tt None m ≡ there_of m
 there_from_none zero = refl
 there_from_none (suc m) = there_on m
 
@@ -302,10 +303,6 @@ pub counts_sum : (ns : List (List ℕ)) → AllShort ns → length ns ≤ 429496
 counts_sum ns s h =
     let e : length (map name_of ns) ≡ length ns = length-map ns name_of in
     sum_tallied (map name_of ns) [] (ascending_none before) (omega arith) ∙ (let z : 0 + length (map name_of ns) ≡ length ns = omega arith in z)
-
--- a record whose length is a byte has a short name
-pub short_by_length : (k : Name) → k.len ≤ 255 → long (bytes_of k) ≡ false
-short_by_length k h = le-ltb 255 _ (let e = length-take k.len k.bytes in omega arith)
 
 module _ {V : Type 0} where
   -- at each place, so row by row

@@ -1,9 +1,9 @@
 pub mod Tallying
-pub mod Visiting
 pub mod Walked
 pub mod Whole
 pub mod Found
 pub mod Held
+pub mod Keeping
 pub mod Moving
 pub mod Naming
 pub mod Outcomes

@@ -33,9 +33,6 @@ moves_both {ns} {ms} {ts} {us} {c} {m} {c'} {l} {k} {l'} f g =
 pub moves_then : {ns ts : List (List ℕ)} {c m c' : PropertyMangleCollection} {l k l' : Shortfall} → Moves ns [] c m l k → Moves [] ts m c' k l' → Moves ns ts c c' l l'
 moves_then {ns} {ts} {c} {m} {c'} {l} {k} {l'} f g = subst (λ names. Moves names ts c c' l l') (append-nil ns) (moves_both f g)
 
-pub moves_sounds : {ns ts : List (List ℕ)} {c c' : PropertyMangleCollection} {l l' : Shortfall} → Moves ns ts c c' l l' → Sounds c'
-moves_sounds m = record { names = m.counting.sound; texts = m.occupying.sound }
-
 lent_from : {V : Type 0} {t t' : Table Name V} → SameMemory t t' → Lent t t'
 lent_from s = record { lent = s.lent; as_long = s.room }
 

@@ -1,12 +1,14 @@
 -- How tables fill.
-use Rattle.std.proofs.Common.{◌≡◌, ℕ, ◌+◌, ◌-◌, ◌<◌, ◌≤◌, min, Bool, true, false, cond, not, ◌&&◌, ◌⊎◌, List, [], ◌∷◌, ◌++◌, length, drop, Some, None, Option, sym, refl, ap, ◌∙◌, subst, inl, inr, ⊎_elim, arith, drop-drop}
-use Rattle.std.proofs.lemmas.Bool.{cases_Bool, cond-true}
+use Rattle.std.proofs.Common.{◌≡◌, ℕ, ◌+◌, ◌-◌, ◌<◌, ◌≤◌, min, Bool, true, false, cond, not, ◌&&◌, ◌⊎◌, List, [], ◌∷◌, ◌++◌, length, drop, Some, None, Option, Ok, Err, Result, sym, refl, ap, ◌∙◌, subst, inl, inr, ⊎_elim, arith, drop-drop}
+use Rattle.std.proofs.lemmas.Bool.{cases_Bool, cond-true, true≢false}
 use Rattle.names.specs.declared.name.Name.{Name}
 use Rattle.names.specs.Names.{before}
+use Rattle.std.specs.Result.{OnErr, is_err}
 use Rattle.table.specs.declared.table.Entry.{Entry}
+use Rattle.table.specs.declared.table.Full.{Full}
 use Rattle.table.specs.declared.table.Table.{Table}
 use Rattle.table.specs.Calls.{Refused, grown as grown_rows}
-use Rattle.tally.specs.Calls.{Added}
+use Rattle.tally.specs.Calls.{Added, Adds}
 use Rattle.tally.proofs.Together.{length_inserted as inserted_length}
 use Rattle.table.specs.Maps.{equivalent, inserted, lookup}
 use Rattle.table.specs.Rows.{memory, rows, SameMemory, Sound}
@@ -62,8 +64,8 @@ module _ {V : Type 0} (sum : V → V → V) (value : V) where
       }
 
   -- one more is added
-  pub fills_added : (name : Name) (t t' : Table Name V) (limit : ℕ) → limit ≡ 4096 → SameMemory t t' → t.len ≤ t'.len → Sound before t → Added before sum limit name value t t' → (full : Bool) → full ≡ false → Fills sum value (name ∷ []) t t' full full
-  fills_added name t t' limit e same grows s a full off =
+  fills_added : (name : Name) (t t' : Table Name V) (limit : ℕ) → limit ≡ 4096 → SameMemory t t' → t.len ≤ t'.len → Sound before t → Added before sum limit name value t t' → (full : Bool) → Fills sum value (name ∷ []) t t' full full
+  fills_added name t t' limit e same grows s a full =
       record {
         kept_memory = same;
         grown = grows;
@@ -81,7 +83,7 @@ module _ {V : Type 0} (sum : V → V → V) (value : V) where
       room_for (Some old) is h = omega (arith, rows_now ∙ ap (λ p. grown_rows p (length (rows t))) is)
 
   -- there is no row left for one more
-  pub fills_full : (name : Name) (t t' : Table Name V) (limit : ℕ) → limit ≡ 4096 → t' ≡ t → Sound before t → Refused before limit name t → (full : Bool) → Fills sum value (name ∷ []) t t' full true
+  fills_full : (name : Name) (t t' : Table Name V) (limit : ℕ) → limit ≡ 4096 → t' ≡ t → Sound before t → Refused before limit name t → (full : Bool) → Fills sum value (name ∷ []) t t' full true
   fills_full name t t' limit e same s r full =
       record {
         kept_memory = subst (λ u. SameMemory t u) (sym same) (record { lent = refl; room = refl; past = refl });
@@ -95,6 +97,24 @@ module _ {V : Type 0} (sum : V → V → V) (value : V) where
       too_many : true ≡ true → room t < length (tallied sum value (name ∷ []) (rows t))
       too_many _ =
           omega (arith, inserted_new_length before name (summed sum (lookup before name (rows t)) value) (rows t) r.new_key, sound_length before t s, r.no_room)
+
+  -- one is added, or there is no row left for it
+  pub fills_one : (name : Name) (t t' : Table Name V) (limit : ℕ) → limit ≡ 4096 → Sound before t → SameMemory t t' → t.len ≤ t'.len → (r : Result (Unit {0}) Full) → OnErr r (t' ≡ t) → Adds before sum limit name value t t' r
+      → (full full' : Bool) → full ≡ false → full' ≡ is_err r → Fills sum value (name ∷ []) t t' full full'
+  fills_one name t t' limit e s same grows (Ok done) k a full full' free is = rw (free, is) (fills_added name t t' limit e same grows s a false)
+  fills_one name t t' limit e s same grows (Err f) k a full full' free is = rw is (fills_full name t t' limit e k s a full)
+
+  -- none is added any more
+  pub fills_past : (names : List Name) (t : Table Name V) (full : Bool) → Sound before t → full ≡ true → Fills sum value names t t full full
+  fills_past names t full s is =
+      record {
+        kept_memory = record { lent = refl; room = refl; past = refl };
+        grown = omega arith;
+        sound = s;
+        on = λ e. absurd (true≢false (sym is ∙ e));
+        fitting = λ e h. h;
+        out = λ e. inl e;
+      }
 
   -- first some, then others
   pub fills_both : {ns ms : List Name} {t m t' : Table Name V} {full mid full' : Bool} → Fills sum value ns t m full mid → Fills sum value ms m t' mid full' → Fills sum value (ns ++ ms) t t' full full'

@@ -15,7 +15,7 @@ use Rattle.positions.specs.Roles.{Setting, counted, counted_at, occupied, occupi
 use Rattle.positions.specs.Walks.{Position, child_walk, walked, walked_all}
 use Rattle.gather.specs.declared.collection.PropertyMangleCollection.{PropertyMangleCollection}
 use Rattle.gather.specs.declared.note.Shortfall.{Shortfall}
-use Rattle.gather.specs.Faults.{AllRight, FirstWrong, Wrong}
+use Rattle.gather.specs.Faults.{AllRight, FirstWrong}
 use Rattle.gather.specs.Filling.{BothLent, Moves, Sounds}
 use Rattle.gather.specs.Walking.{Stands, Stopped, WalkedOver, Walks, position}
 use Rattle.gather.proofs.Moving.{both_lent_then, moves_both, moves_lent, moves_none}
@@ -236,9 +236,6 @@ module _ {rows : List Row} {text : List ℕ} {row : ℕ} (t : Stands rows text r
     number_is : (get_or rows row zero_row).children ≡ count t.forest
     number_is = ap (λ (n : Node). n.children) stands_root
 
-    pub stopped_at_root : (refusal : Refusal) (c c' : PropertyMangleCollection) → ((name : List ℕ) × (counted_at s (position text (get_or rows row zero_row) w) ≡ name ∷ []) × Wrong row name refusal) × BothLent c c' → Stopped s w (tree t.label t.forest) row c c' refusal
-    stopped_at_root refusal c c' h = record { wrong = inl (h.0.0, ap (counted_at s) (sym (root_position w)) ∙ h.0.1, h.0.2); lent = h.1 }
-
     pub stopped_at_child : (refusal : Refusal) (c m c' : PropertyMangleCollection) (l l' : Shortfall)
         → AllRight (counted_at s (position text (get_or rows row zero_row) w)) × Moves (counted_at s (position text (get_or rows row zero_row) w)) (occupied_at s (position text (get_or rows row zero_row) w)) c m l l'
         → FirstWrong s (row + 1) (walked_all w t.label.kind 0 (get_or rows row zero_row).children t.forest) refusal × BothLent m c'
@@ -271,17 +268,6 @@ module _ {rows : List Row} {text : List ℕ} {row : ℕ} (t : Stands rows text r
 
         own_moves : Moves (counted_at s own) (occupied_at s own) c m l k
         own_moves = subst (λ p. Moves (counted_at s p) (occupied_at s p) c m l k) (root_position w) root.1
-
--- how a child is walked, by its parent's kind under another name
-pub child_way : (k k' : Kind) (w v : Bool) (i n : ℕ) → k ≡ k' → v ≡ child_walk w k' i n → child_walk w k i n ≡ v
-child_way k k' w v i n same e = ap (λ (x : Kind). child_walk w x i n) same ∙ sym e
-
--- a walk told in other words
-pub same_walk : (s : Setting) (t : Tree) (at : ℕ) (c : PropertyMangleCollection) (l : Shortfall) {w v : Bool} {c' c'' : PropertyMangleCollection} {l' l'' : Shortfall} {r r' : Result ℕ Refusal} → w ≡ v → c' ≡ c'' → l' ≡ l'' → r ≡ r' → Walks s v t at c c'' l l'' r' → Walks s w t at c c' l l' r
-same_walk s t at c l {w} {v} {c'} {c''} {l'} {l''} {r} {r'} e f g h x =
-    subst (λ (b : Bool). Walks s b t at c c' l l' r) (sym e)
-    (subst (λ (d : PropertyMangleCollection). Walks s v t at c d l l' r) (sym f)
-    (subst (λ (d : Shortfall). Walks s v t at c c'' l d r) (sym g) (subst (λ (d : Result ℕ Refusal). Walks s v t at c c'' l l'' d) (sym h) x)))
 
 module _ {rows : List Row} {text : List ℕ} {row number : ℕ} (b : Brood rows text row number) (s : Setting) (w : Bool)
     {c c' : PropertyMangleCollection} {l l' : Shortfall} {turns next : ℕ} (n : Turn b s w c l turns next c' l') (h : turns < number) where

@@ -5,7 +5,9 @@ use Rattle.std.specs.Str.{bytes_eq}
 use Rattle.names.specs.declared.name.Name.{Name}
 use Rattle.names.specs.Names.{before, bytes_of, long, name_of}
 use Rattle.table.specs.declared.table.Entry.{Entry}
-use Rattle.table.specs.Maps.{Ascending, lookup}
+use Rattle.options.specs.Giving.{found}
+use Rattle.table.specs.Maps.{Ascending}
+use Rattle.tally.specs.Counts.{there_of}
 
 -- how often a name stands in a list of names
 abbrev pub times : List ℕ → List (List ℕ) → ℕ
@@ -21,19 +23,10 @@ different (n ∷ ns) = cond (times n ns == 0) (different ns + 1) (different ns)
 abbrev pub kept : List (List ℕ) → List (List ℕ)
 kept texts = filter (λ t. nat_le (length t) 255) texts
 
--- what rows have for a name; a name of over 255 bytes is in none
-abbrev pub found : {V : Type 0} → List ℕ → List (Entry Name V) → Option V
-found n rows = cond (long n) None (lookup before (name_of n) rows)
-
 -- a number of times, none for none
 abbrev pub counted_times : ℕ → Option ℕ
 counted_times zero = None
 counted_times (suc n) = Some (suc n)
-
--- once or more is once
-abbrev pub there : ℕ → Option (Unit {0})
-there zero = None
-there (suc n) = Some tt
 
 -- each key is a name record as we make them, of at most 255 bytes and with zeros past them
 pub record Clean {V : Type 0} (rows : List (Entry Name V)) : Type 0 where
@@ -50,7 +43,7 @@ pub record HoldsCounts (names : List (List ℕ)) (rows : List (Entry Name ℕ)) 
 pub record HoldsTexts (texts : List (List ℕ)) (rows : List (Entry Name (Unit {0}))) : Type 0 where
   pub ascending : Ascending before rows
   pub clean : Clean rows
-  pub texts_are : (t : List ℕ) → found t rows ≡ there (times t texts)
+  pub texts_are : (t : List ℕ) → found t rows ≡ there_of (times t texts)
 
 -- the sum of the counts of rows
 abbrev pub sum_of : List (Entry Name ℕ) → ℕ

@@ -3,3 +3,4 @@ pub mod Faults
 pub mod Gathering
 pub mod Filling
 pub mod Walking
+pub mod Gatherers

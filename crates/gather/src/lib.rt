@@ -3,7 +3,9 @@
 
 mod collection;
 mod gather;
+mod gatherer;
 mod note;
+mod starts;
 mod walk;
 
 pub use collection::{PropertyMangleCollection, ROW_LIMIT};

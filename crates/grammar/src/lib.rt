@@ -6,7 +6,8 @@ ghost use Rattle.grammar.specs.Words.{word};
 
 use pages::Kind;
 
-// The name of a kind.
+// The name of a kind. A match to bytes and no `Display`: these bytes are compared by the reader and copied into lent
+// memory by the writer, and nothing formats them.
 pub fn kind_name(kind: Kind) -> &'static [u8]
     ensures { result.now ≡ word kind }
 {

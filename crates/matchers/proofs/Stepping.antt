@@ -1,8 +1,8 @@
 -- The steps of the walk keep the answer.
-use Rattle.std.proofs.Common.{◌≡◌, ℕ, Bool, true, false, cond, ◌&&◌, ◌||◌, eqb, List, [], ◌∷◌, sym, refl, ap, ◌∙◌, inl, inr}
-use Rattle.std.proofs.lemmas.Bool.{and_parts, cases_Bool}
+use Rattle.std.proofs.Common.{◌≡◌, ℕ, ◌<◌, ◌≤◌, Bool, true, false, cond, ◌&&◌, ◌||◌, eqb, List, [], ◌∷◌, length, get_or, sym, refl, ap, ◌∙◌, inl, inr, arith}
+use Rattle.std.proofs.lemmas.Bool.{and_parts, cases_Bool, ne_eqb}
 use Rattle.matchers.specs.Patterns.{one, itself, piece, some_suffix, parted, matched}
-use Rattle.matchers.specs.Walks.{at_run, taking, all_runs, later}
+use Rattle.matchers.specs.Walks.{taking, all_runs, later}
 use Rattle.matchers.proofs.Suffixes.{suffix_or_later, later_earlier, later_moves}
 
 -- what holds of a pattern that begins with `*`
@@ -34,11 +34,18 @@ module _ (b : ℕ) (bs : List ℕ) (is : eqb b 42 ≡ false) where
       later_moves (matched bs) (matched (b ∷ bs)) byte_none
       (λ x xs h. (and_parts (eqb b 63 || eqb b x) (matched bs xs) (sym (byte_matched x xs) ∙ h)).1)
 
--- no `*`, and the byte is not taken
-pub stuck_fails : (pattern : List ℕ) (x : ℕ) (xs : List ℕ) → at_run pattern ≡ false → taking pattern x ≡ false → matched pattern (x ∷ xs) ≡ false
+-- no byte of the pattern is left, or the one that is left is no `*` and does not take the next
+pub stuck_past : (pattern name : List ℕ) → 0 < length name → length pattern < 1 → matched pattern name ≡ false
 unfolding matched
-stuck_fails [] x xs r t = refl
-stuck_fails (b ∷ bs) x xs r t = byte_matched b bs r x xs ∙ ap (λ v. v && matched bs xs) t
+stuck_past pattern [] within past = absurd (omega arith)
+stuck_past [] (x ∷ xs) within past = refl
+stuck_past (b ∷ bs) (x ∷ xs) within past = absurd (omega arith)
+
+pub stuck_byte : (pattern name : List ℕ) → 0 < length name → 1 ≤ length pattern → (get_or pattern 0 0 ≡ 42 → ⊥) → false ≡ taking (get_or pattern 0 0) (get_or name 0 0) → matched pattern name ≡ false
+stuck_byte pattern [] within here other t = absurd (omega arith)
+stuck_byte [] (x ∷ xs) within here other t = absurd (omega arith)
+stuck_byte (b ∷ bs) (x ∷ xs) within here other t =
+    byte_matched b bs (ne_eqb b 42 other) x xs ∙ ap (λ v. v && matched bs xs) (sym t)
 
 -- at the end of the name
 pub ends : (pattern : List ℕ) → matched pattern [] ≡ all_runs pattern

@@ -1,67 +1,69 @@
 -- What the private steps of the walk are held to. No public promise rests on it.
-use Rattle.std.specs.Prelude.{◌≡◌, ℕ, ◌+◌, ◌-◌, ◌*◌, ◌<◌, ◌≤◌, Bool, true, false, ◌&&◌, ◌||◌, List, [], ◌∷◌, length, drop, Some, None, Option, ◌==◌}
+use Rattle.std.specs.Prelude.{◌≡◌, ℕ, ◌+◌, ◌*◌, ◌<◌, ◌≤◌, Bool, true, false, ◌||◌, List, [], ◌∷◌, length, Some, None, Option, MatchOption, ◌==◌}
+use Rattle.std.specs.List.{list_all}
 use Rattle.matchers.specs.declared.walk.Place.{Place}
 use Rattle.matchers.specs.declared.walk.Walk.{Walk}
 use Rattle.matchers.specs.Patterns.{matched, some_suffix}
 
--- whether a pattern begins with `*`
-abbrev pub at_run : List ℕ → Bool
-at_run [] = false
-at_run (b ∷ bs) = b == 42
-
--- whether a pattern begins with `?` or this byte
-abbrev pub taking : List ℕ → ℕ → Bool
-taking [] x = false
-taking (b ∷ bs) x = b == 63 || b == x
-
 -- whether each byte of a pattern is `*`
 abbrev pub all_runs : List ℕ → Bool
-all_runs [] = true
-all_runs (b ∷ bs) = b == 42 && all_runs bs
+all_runs bs = list_all (λ b. b == 42) bs
+
+-- whether a byte of a pattern that is no `*` stands for this byte: it is a `?` or the byte itself
+abbrev pub taking : ℕ → ℕ → Bool
+taking b x = b == 63 || b == x
 
 -- whether what is left of a name behind one or more of its bytes passes a test
 abbrev pub later : (List ℕ → Bool) → List ℕ → Bool
 later test [] = false
 later test (x ∷ xs) = some_suffix test xs
 
--- whether what is left of the pattern at a place means what is left of the name there
-abbrev pub fits : List ℕ → List ℕ → Place → Bool
-fits pattern name p = matched (drop p.pattern pattern) (drop p.name name)
+-- whether what is to go of the pattern means what is to go of the name
+abbrev pub fits : Place → Bool
+fits p = matched p.pattern.now p.name.now
 
--- whether it means what is left of the name at some later place
-abbrev pub fits_later : List ℕ → List ℕ → Place → Bool
-fits_later pattern name p = later (matched (drop p.pattern pattern)) (drop p.name name)
+-- whether it means what is left of that behind one or more of its bytes
+abbrev pub fits_later : Place → Bool
+fits_later p = later (matched p.pattern.now) p.name.now
 
--- behind a `*`: the name fits from here on, or in an attempt that begins later than the last one; and if such an
--- attempt fits, then what is left of the pattern fits later than here
-pub record Retrying (pattern name : List ℕ) (at last : Place) : Type 0 where
-  pub in_pattern : last.pattern ≤ length pattern
-  pub before : last.name ≤ at.name
-  pub answer : matched pattern name ≡ (fits pattern name at || fits_later pattern name last)
-  pub ahead : fits_later pattern name last ≡ true → fits_later pattern name at ≡ true
+-- the name fits from here on, or, behind a `*`, in an attempt that begins later than the last one
+abbrev pub answers_at : Place → Option Place → Bool
+answers_at at None = fits at
+answers_at at (Some last) = fits at || fits_later last
 
--- where no `*` was met, the name fits if it does from here on; and behind a `*`, see above
-abbrev pub Answered : List ℕ → List ℕ → Place → Option Place → Type 0
-Answered pattern name at None = matched pattern name ≡ fits pattern name at
-Answered pattern name at (Some last) = Retrying pattern name at last
+abbrev pub answers : Walk → Bool
+answers w = answers_at w.at w.retry
 
--- the walk is inside both, and the answer can still be told from where it is
-pub record Walking (pattern name : List ℕ) (w : Walk) : Type 0 where
-  pub in_pattern : w.at.pattern ≤ length pattern
-  pub in_name : w.at.name ≤ length name
-  pub answered : Answered pattern name w.at w.retry
+-- the last attempt began no later than here; and if a later one fits, then what is to go of the pattern fits later than
+-- here
+pub record Behind (at last : Place) : Type 0 where
+  pub before : length at.name.now ≤ length last.name.now
+  pub ahead : fits_later last ≡ true → fits_later at ≡ true
 
--- where the present attempt began in the name
-abbrev pub since : Option Place → ℕ
-since None = 0
-since (Some last) = last.name
+abbrev pub Sound_at : Place → Option Place → Type 0
+Sound_at at None = Unit {0}
+Sound_at at (Some last) = Behind at last
 
--- how many turns are left at most
-abbrev pub left : List ℕ → List ℕ → Walk → ℕ
-left pattern name w = (length name - since w.retry) * (length pattern + 1) + (length pattern - w.at.pattern)
+-- behind a `*`, the last attempt is as said above
+abbrev pub Sound : Walk → Type 0
+Sound w = Sound_at w.at w.retry
 
--- what a turn makes of a walk: the answer can still be told, fewer turns are left, and it is at most one byte further
-pub record Turned (pattern name : List ℕ) (w next : Walk) : Type 0 where
-  pub walking : Walking pattern name next
-  pub fewer : left pattern name next < left pattern name w
-  pub near : next.at.name ≤ w.at.name + 1
+-- how much of the name was to go where the present attempt began
+abbrev pub since : Place → Option Place → ℕ
+since at None = length at.name.now
+since at (Some last) = length last.name.now
+
+-- no more of a pattern is to go than so many bytes, here and where an attempt begins again
+abbrev pub Within : ℕ → Walk → Type 0
+Within most w = (length w.at.pattern.now ≤ most) × MatchOption w.retry (Unit {0}) (λ last. length last.pattern.now ≤ most)
+
+-- how many turns are left at most, in a pattern of so many bytes
+abbrev pub left : ℕ → Walk → ℕ
+left most w = since w.at w.retry * (most + 1) + length w.at.pattern.now
+
+-- what a turn makes of a walk: the answer is the same, fewer turns are left, and it is at most one byte further
+pub record Turned (w next : Walk) : Type 0 where
+  pub sound : Sound next
+  pub same : answers next ≡ answers w
+  pub near : length w.at.name.now ≤ length next.at.name.now + 1
+  pub fewer : (most : ℕ) → Within most w → Within most next × (left most next < left most w)

@@ -1,6 +1,7 @@
 -- The set of the words of a list.
-use Rattle.std.specs.Prelude.{◌≡◌, ℕ, Bool, false, ◌||◌, ◌⊎◌, List, [], ◌∷◌}
+use Rattle.std.specs.Prelude.{◌≡◌, ℕ, Bool, ◌⊎◌, List, [], ◌∷◌}
 use Rattle.std.specs.Borrow.{Bor}
+use Rattle.std.specs.List.{list_any}
 use Rattle.std.specs.Str.{bytes_eq}
 
 -- the first word has these bytes, or one of the words after it; of no words, none has
@@ -10,5 +11,4 @@ Listed (word ∷ words) name = (word.now ≡ name) ⊎ Listed words name
 
 -- the same as a test
 abbrev pub listed : List (Bor (List ℕ)) → List ℕ → Bool
-listed [] name = false
-listed (word ∷ words) name = bytes_eq word.now name || listed words name
+listed words name = list_any (λ word. bytes_eq word.now name) words

@@ -8,9 +8,6 @@ impl<M: Matcher> Matcher for Option<M> {
     ghost holds = { λ o name. elim o [ None ↦ false | Some m ↦ M.Matcher.holds m name ] };
 
     fn is_match(&self, name: &[u8]) -> bool {
-        match self {
-            Some(matcher) => matcher.is_match(name),
-            None => false,
-        }
+        self.as_ref().is_some_and(|matcher| matcher.is_match(name))
     }
 }

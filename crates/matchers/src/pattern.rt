@@ -7,7 +7,7 @@ use crate::walk::run;
 
 // In a pattern `*` stands for any run of bytes, none too, `?` for exactly one byte, and any other byte for itself. The
 // set is the names that are like the pattern from their first byte to their last.
-#[derive(Clone, Copy)]
+#[derive(Clone, Copy, Debug)]
 pub struct Pattern<'a> {
     pub bytes: &'a [u8],
 }

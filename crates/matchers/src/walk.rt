@@ -1,120 +1,92 @@
 // The walk over a pattern and a name. It remembers only the last `*`, so its turns stay within the product of the
 // lengths, each with one added.
-ghost use Rattle.std.specs.Prelude.{◌≡◌, ◌+◌, ◌*◌, ◌<◌, ◌≤◌, true, false, length, drop, MatchOption};
+ghost use Rattle.std.specs.Prelude.{◌≡◌, ◌+◌, ◌*◌, ◌<◌, ◌≤◌, true, false, length, MatchOption};
 ghost use Rattle.matchers.specs.Patterns.{matched};
-ghost use Rattle.matchers.specs.Walks.{at_run, taking, all_runs, Walking, Turned};
+ghost use Rattle.matchers.specs.Walks.{all_runs, answers, taking, Sound, Turned};
 
-// The byte that stands for any run of bytes.
-const RUN: u8 = b'*';
-
-// The byte that stands for exactly one byte.
-const ONE: u8 = b'?';
-
-// A place in the pattern and one in the name.
+// What is still to go of the pattern and of the name.
 #[derive(Clone, Copy)]
-pub(crate) struct Place {
-    pub(crate) pattern: usize,
-    pub(crate) name: usize,
+pub(crate) struct Place<'a> {
+    pub(crate) pattern: &'a [u8],
+    pub(crate) name: &'a [u8],
 }
 
 // Where the walk is, and, behind the last `*` that it has met, where the present attempt began.
 #[derive(Clone, Copy)]
-pub(crate) struct Walk {
-    pub(crate) at: Place,
-    pub(crate) retry: Option<Place>,
+pub(crate) struct Walk<'a> {
+    pub(crate) at: Place<'a>,
+    pub(crate) retry: Option<Place<'a>>,
 }
 
-// The answer, and how many turns it took.
+// The answer, and how many turns it took: each walk has both.
 #[derive(Clone, Copy)]
 pub(crate) struct Outcome {
     pub(crate) matched: bool,
     pub(crate) turns: u128,
 }
 
-// Whether a `*` stands at this place of the pattern.
-fn is_run(pattern: &[u8], i: usize) -> bool
-    ensures { result ≡ at_run (drop i pattern.now) }
+// Whether a byte of a pattern that is no `*` stands for this byte: it is a `?` or the byte itself.
+fn takes(byte: u8, next: u8) -> bool
+    ensures { result ≡ taking byte next }
 {
-    i < pattern.len() && pattern[i] == RUN
+    byte == b'?' || byte == next
 }
 
-// Whether a `?` or the byte itself stands at this place of the pattern.
-fn takes(pattern: &[u8], i: usize, byte: u8) -> bool
-    ensures { result ≡ taking (drop i pattern.now) byte }
+// Whether only `*` is still to go of the pattern.
+fn is_all_runs(pattern: &[u8]) -> bool
+    ensures { result ≡ all_runs pattern.now }
 {
-    i < pattern.len() && (pattern[i] == ONE || pattern[i] == byte)
-}
-
-// Whether only `*` stands from this place of the pattern on.
-fn is_all_runs(pattern: &[u8], from: usize) -> bool
-    ensures { result ≡ all_runs (drop from pattern.now) }
-{
-    let mut i = from;
-    while i < pattern.len() {
-        if pattern[i] != RUN {
-            return false;
-        }
-        i += 1;
-    }
-    true
+    pattern.iter().all(|b| *b == b'*')
 }
 
 // One turn before the end of the name: past a `*`, which is remembered; past a byte that is taken; or back to the last
 // `*`, which then takes one byte more. None where there is no `*` to go back to.
-fn step(pattern: &[u8], name: &[u8], walk: Walk) -> Option<Walk>
-    requires sound { Walking pattern.now name.now walk }
-    requires within { walk.at.name < length name.now }
-    ensures { MatchOption result (matched pattern.now name.now ≡ false) (λ next. Turned pattern.now name.now walk next) }
+fn step<'a>(walk: Walk<'a>) -> Option<Walk<'a>>
+    requires sound { Sound walk }
+    requires within { 0 < length walk.at.name.now }
+    ensures { MatchOption result (answers walk.entry ≡ false) (λ next. Turned walk.entry next) }
 {
     let Walk { at, retry } = walk;
-    if is_run(pattern, at.pattern) {
-        let behind = Place {
-            pattern: at.pattern + 1,
-            name: at.name,
-        };
-        return Some(Walk {
-            at: behind,
-            retry: Some(behind),
-        });
+    match (at.pattern, at.name) {
+        ([b'*', pattern @ ..], _) => {
+            let behind = Place { pattern, ..at };
+            Some(Walk {
+                at: behind,
+                retry: Some(behind),
+            })
+        }
+        ([first, pattern @ ..], [byte, name @ ..]) if takes(*first, *byte) => Some(Walk {
+            at: Place { pattern, name },
+            retry,
+        }),
+        _ => {
+            let last = retry?;
+            let again = Place {
+                name: &last.name[1..],
+                ..last
+            };
+            Some(Walk {
+                at: again,
+                retry: Some(again),
+            })
+        }
     }
-    if takes(pattern, at.pattern, name[at.name]) {
-        let next = Place {
-            pattern: at.pattern + 1,
-            name: at.name + 1,
-        };
-        return Some(Walk { at: next, retry });
-    }
-    let Some(last) = retry else {
-        return None;
-    };
-    let again = Place {
-        pattern: last.pattern,
-        name: last.name + 1,
-    };
-    Some(Walk {
-        at: again,
-        retry: Some(again),
-    })
 }
 
 // Whether the pattern means the name, in at most as many turns as the product of the lengths, each with one added; and a
 // match takes at least a turn for each byte of the name.
-pub(crate) fn run(pattern: &[u8], name: &[u8]) -> Outcome
+pub(crate) fn run<'a>(pattern: &'a [u8], name: &'a [u8]) -> Outcome
     ensures answer { result.matched ≡ matched pattern.now name.now }
     ensures bound { result.turns ≤ (length pattern.now + 1) * (length name.now + 1) }
     ensures count { result.matched ≡ true → length name.now ≤ result.turns }
 {
-    let start = Place {
-        pattern: 0,
-        name: 0,
-    };
     let mut walk = Walk {
-        at: start,
+        at: Place { pattern, name },
         retry: None,
     };
     let mut turns = 0;
-    while walk.at.name < name.len() {
-        let Some(next) = step(pattern, name, walk) else {
+    while !walk.at.name.is_empty() {
+        let Some(next) = step(walk) else {
             return Outcome {
                 matched: false,
                 turns,
@@ -124,7 +96,7 @@ pub(crate) fn run(pattern: &[u8], name: &[u8]) -> Outcome
         turns += 1;
     }
     Outcome {
-        matched: is_all_runs(pattern, walk.at.pattern),
+        matched: is_all_runs(walk.at.pattern),
         turns,
     }
 }

@@ -4,7 +4,7 @@ ghost use Rattle.std.specs.Prelude.{not, ◌&&◌};
 use crate::matcher::Matcher;
 
 // The names that `include` means, without those that `exclude` means.
-#[derive(Clone, Copy, Drop)]
+#[derive(Clone, Copy, Debug, Drop)]
 pub struct Without<I, E> {
     pub include: I,
     pub exclude: E,

@@ -1,21 +1,13 @@
 // The names that are written out in a list.
 ghost use Rattle.std.specs.Prelude.{◌≡◌, ℕ, List, Decides};
-ghost use Rattle.std.specs.Str.{bytes_eq};
 ghost use Rattle.matchers.specs.Words.{listed, Listed};
 
 use crate::matcher::Matcher;
 
 // The set of its words.
-#[derive(Clone, Copy)]
+#[derive(Clone, Copy, Debug)]
 pub struct WordList<'a, 'b> {
     pub words: &'a [&'b [u8]],
-}
-
-// Whether the name is this word.
-fn is_word(word: &[u8], name: &[u8]) -> bool
-    ensures { result ≡ bytes_eq word.now name.now }
-{
-    word == name
 }
 
 impl<'a, 'b> Matcher for WordList<'a, 'b> {
@@ -25,11 +17,6 @@ impl<'a, 'b> Matcher for WordList<'a, 'b> {
         ensures answer { result ≡ listed self.now.words.now name.now }
         ensures means { (text : List ℕ) → Decides (listed self.now.words.now text) (Listed self.now.words.now text) }
     {
-        for word in self.words {
-            if is_word(word, name) {
-                return true;
-            }
-        }
-        false
+        self.words.iter().any(|word| *word == name)
     }
 }

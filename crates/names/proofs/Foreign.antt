@@ -1,15 +1,20 @@
--- Whether a text is foreign shows byte by byte.
-use Rattle.std.proofs.Common.{◌≡◌, ℕ, ◌+◌, ◌<◌, ◌≤◌, true, false, List, length, get_or, drop, refl, add-one, drop-cons}
-use Rattle.std.proofs.lemmas.List.{drop_all}
+-- What the library's test for ASCII says of foreign texts.
+use Rattle.std.proofs.Common.{◌≡◌, ℕ, zero, suc, ◌≤◌, Bool, true, false, not, List, [], ◌∷◌, refl, sym, arith, slice_index, leb}
+use Rattle.std.specs.Prelude.{MatchBool}
+use Rattle.std.specs.Str.{IsAscii, IsNotAscii}
+use Rattle.std.proofs.Math.Bool.{or-true}
 use Rattle.std.proofs.lemmas.Bool.{le-leb, lt-leb}
 use Rattle.names.specs.Texts.{foreign}
 
-module _ (text : List ℕ) (i : ℕ) where
-  pub foreign_here : i < length text → 128 ≤ get_or text i 0 → foreign (drop i text) ≡ true
-  foreign_here h e = rw (drop-cons text i 0 h, le-leb 128 (get_or text i 0) e) refl
-
-  pub foreign_later : i < length text → get_or text i 0 < 128 → foreign (drop i text) ≡ foreign (drop (i + 1) text)
-  foreign_later h e = rw (drop-cons text i 0 h, lt-leb 128 (get_or text i 0) e, add-one) refl
-
-  pub foreign_nowhere : length text ≤ i → foreign (drop i text) ≡ false
-  foreign_nowhere h = rw (drop_all i text h) refl
+pub foreign_by_ascii : (text : List ℕ) (r : Bool) → MatchBool r (IsAscii text) (IsNotAscii text) → not r ≡ foreign text
+foreign_by_ascii text true all = sym (none text all)
+  where
+    none : (bs : List ℕ) → IsAscii bs → foreign bs ≡ false
+    none [] f = refl
+    none (b ∷ bs) f = rw (lt-leb 128 b (f 0), none bs (λ i. f (suc i))) refl
+foreign_by_ascii text false some = sym (there text some.0 some.1)
+  where
+    there : (bs : List ℕ) (i : ℕ) → 128 ≤ slice_index bs i → foreign bs ≡ true
+    there [] i h = absurd (omega arith)
+    there (b ∷ bs) zero h = rw (le-leb 128 b h) refl
+    there (b ∷ bs) (suc i) h = rw (there bs i h) (or-true (leb 128 b))

@@ -1,4 +1,3 @@
-pub mod Comparing
 pub mod Filling
 pub mod Foreign
 pub mod Identifying

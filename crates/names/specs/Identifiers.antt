@@ -1,5 +1,8 @@
 -- Identifier names: one or more of A-Z, a-z, $ and _, and, after the first, also 0-9.
-use Rattle.std.specs.Prelude.{ℕ, Bool, true, false, cond, ◌&&◌, ◌||◌, List, [], ◌∷◌, ◌==◌, nat_le}
+use Rattle.std.specs.Prelude.{ℕ, Bool, false, cond, ◌&&◌, ◌||◌, List, [], ◌∷◌, ◌==◌, nat_le}
+use Rattle.std.specs.List.{list_all}
+use Rattle.names.specs.declared.identifier.Class.{Class}
+use Rattle.names.specs.declared.identifier.Class.TheVariants.{Start, Part, Other}
 
 -- A-Z, a-z, $ or _
 unfoldable pub starts : ℕ → Bool
@@ -15,14 +18,13 @@ goes_on b = starts b || digit b
 
 -- each byte may stand after the first
 abbrev pub all_go_on : List ℕ → Bool
-all_go_on [] = true
-all_go_on (b ∷ bs) = goes_on b && all_go_on bs
+all_go_on text = list_all goes_on text
 
 -- at least one byte; the first may stand first, and the others after it
 abbrev pub identifier : List ℕ → Bool
 identifier [] = false
 identifier (b ∷ bs) = starts b && all_go_on bs
 
--- the class of a byte: 2 where it may stand first, 1 where it may stand but not first, 0 where it may not stand
-unfoldable pub class : ℕ → ℕ
-class b = cond (starts b) 2 (cond (digit b) 1 0)
+-- the class of a byte: whether it may stand first, or only after the first, or nowhere
+unfoldable pub class : ℕ → Class
+class b = cond (starts b) Start (cond (digit b) Part Other)

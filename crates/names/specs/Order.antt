@@ -1,10 +1,9 @@
 -- The order of names: byte by byte.
-use Rattle.std.specs.Prelude.{ℕ, Bool, true, false, cond, List, [], ◌∷◌, ◌==◌, nat_lt}
+use Rattle.std.specs.Prelude.{ℕ, Bool, List}
+use Rattle.std.specs.Ordering.{is_lt, nat_cmp}
+use Rattle.std.specs.Cmp.Lexicographic.{slice_cmp}
 
 -- whether a list stands before another: the first byte in which they differ decides, and a front
 -- stands before what it begins
 abbrev pub less : List ℕ → List ℕ → Bool
-less [] [] = false
-less [] (y ∷ ys) = true
-less (x ∷ xs) [] = false
-less (x ∷ xs) (y ∷ ys) = cond (x == y) (less xs ys) (nat_lt x y)
+less a b = is_lt (slice_cmp nat_cmp a b)

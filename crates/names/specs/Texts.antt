@@ -1,5 +1,6 @@
 -- Hard names, and texts that are not ASCII.
-use Rattle.std.specs.Prelude.{ℕ, Bool, false, ◌||◌, List, [], ◌∷◌, codes, nat_le}
+use Rattle.std.specs.Prelude.{ℕ, Bool, ◌||◌, List, codes, nat_le}
+use Rattle.std.specs.List.{list_any}
 use Rattle.std.specs.Str.{bytes_eq}
 
 -- one of the three hard names
@@ -9,5 +10,4 @@ hard text =
 
 -- some byte is 128 or more
 abbrev pub foreign : List ℕ → Bool
-foreign [] = false
-foreign (b ∷ bs) = nat_le 128 b || foreign bs
+foreign text = list_any (nat_le 128) text

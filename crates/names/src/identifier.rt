@@ -1,20 +1,21 @@
 // Which texts are identifier names.
 ghost use Rattle.std.specs.Prelude.{◌≡◌};
-ghost use Rattle.names.specs.Identifiers.{class, starts, goes_on, all_go_on, identifier};
+ghost use Rattle.names.specs.Identifiers.{class, starts, goes_on, identifier};
 
-// The class of a byte that may stand anywhere in an identifier name. Classes are numbers: a table of an enum would be
-// proved entry by entry.
-const S: u8 = 2;
+// Where a byte may stand in an identifier name.
+#[derive(Clone, Copy, PartialEq, Eq, Debug)]
+enum Class {
+    Start,
+    Part,
+    Other,
+}
 
-// The class of a byte that may stand anywhere but first.
-const P: u8 = 1;
+use Class::{Other as O, Part as P, Start as S};
 
-// The class of a byte that may stand nowhere.
-const O: u8 = 0;
-
-// The class of each byte, sixteen to a line.
+// The class of each byte, sixteen to a line: a constant table is the project's form. It is a static, which is read in
+// place: a const of enum values is built anew at each use.
 #[rattlefmt::skip]
-const CLASSES: [u8; 256] = [
+static CLASSES: [Class; 256] = [
     O, O, O, O, O, O, O, O, O, O, O, O, O, O, O, O,
     O, O, O, O, O, O, O, O, O, O, O, O, O, O, O, O,
     O, O, O, O, S, O, O, O, O, O, O, O, O, O, O, O,
@@ -33,34 +34,24 @@ const CLASSES: [u8; 256] = [
     O, O, O, O, O, O, O, O, O, O, O, O, O, O, O, O,
 ];
 
-fn class_of(byte: u8) -> u8
+fn class_of(byte: u8) -> Class
     ensures { result ≡ class byte }
 {
     CLASSES[usize::from(byte)]
 }
 
+#[tactic(auto, unfolding(crate::specs::Identifiers::class))]
 fn may_start(byte: u8) -> bool
     ensures { result ≡ starts byte }
 {
-    class_of(byte) == S
+    matches!(class_of(byte), Class::Start)
 }
 
+#[tactic(auto, unfolding(crate::specs::Identifiers::class, crate::specs::Identifiers::goes_on))]
 fn may_follow(byte: u8) -> bool
     ensures { result ≡ goes_on byte }
 {
-    class_of(byte) != O
-}
-
-// Whether each byte may stand after the first.
-fn all_may_follow(text: &[u8]) -> bool
-    ensures { result ≡ all_go_on text.now }
-{
-    for byte in text {
-        if !may_follow(*byte) {
-            return false;
-        }
-    }
-    true
+    !matches!(class_of(byte), Class::Other)
 }
 
 // Whether the text is one or more of A-Z, a-z, `$`, `_` and, after the first, 0-9.
@@ -69,6 +60,6 @@ pub fn is_identifier_name(text: &[u8]) -> bool
 {
     match text {
         [] => false,
-        [first, rest @ ..] => may_start(*first) && all_may_follow(rest),
+        [first, rest @ ..] => may_start(*first) && rest.iter().all(|byte| may_follow(*byte)),
     }
 }

@@ -3,7 +3,7 @@ use Rattle.std.proofs.Common.{◌≡◌, ℕ, ◌+◌, ◌-◌, Bool, true, fals
 use Rattle.std.proofs.lemmas.List.{length-map}
 use Rattle.std.proofs.lemmas.Bool.{cond_both, cond-false, and_parts, and_right, eqb-true, ne_eqb, eqb-false, not-true, not_from_false, false≢true}
 use Rattle.numerals.specs.declared.form.Form.{Form}
-use Rattle.numerals.specs.declared.form.Form.TheVariants.{Other, Short, Long}
+use Rattle.numerals.specs.declared.form.Form.TheVariants.{Short, Long}
 use Rattle.numerals.specs.Numeral.{last, spelled, unsigned, signed, Number, nought, finite, Shortest, Numeral, OneNumber}
 use Rattle.numerals.specs.Deciding.{ends, unsigned_form, signed_form, is_nought, text_form}
 use Rattle.numerals.proofs.Shapes.{Figure, figure, shape, far, figure_form}
@@ -80,7 +80,7 @@ reading_right s = cond_both (is_nought s) _ _ (Reads s) (nought_text s) (λ _. s
 
 -- A text without a sign that has a figure is neither `0` nor begins with a minus.
 never_some : (f : Figure) → ◌≡◌ {A = Option Figure} None (Some f) → ⊥
-never_some f e = let z : ◌≡◌ {A = ℕ} 0 1 = cc in omega arith
+never_some f e = cc
 
 nought_figure : figure (shape (48 ∷ [])) ≡ None
 unfolding shape
@@ -126,15 +126,15 @@ pub one_number : (s : List ℕ) → OneNumber s
 one_number s m m' h h' = same_some m m' (sym (reading_found s m h) ∙ reading_found s m' h')
 
 -- The form of a text is that of its number.
-abbrev pub number_form : Option Number → Form
-number_form None = Other
-number_form (Some nought) = Short
-number_form (Some (finite negative ds n)) = cond (ltb 15 (length ds) || far n) Long Short
+abbrev pub number_form : Option Number → Option Form
+number_form None = None
+number_form (Some nought) = Some Short
+number_form (Some (finite negative ds n)) = Some (cond (ltb 15 (length ds) || far n) Long Short)
 
 finished_form : (negative : Bool) (o : Option Figure) → figure_form o ≡ number_form (finished negative o)
 finished_form negative None = refl
 finished_form negative (Some f) =
-    ap (λ k. cond (ltb 15 k || far f.place) Long Short) (sym (length-map f.digits (λ b. b - 48)))
+    ap (λ k. Some (cond (ltb 15 k || far f.place) Long Short)) (sym (length-map f.digits (λ b. b - 48)))
 
 signed_is : (s : List ℕ) → signed_form s ≡ number_form (signed_reading s)
 signed_is [] = refl
@@ -146,7 +146,7 @@ signed_is (x ∷ s) =
 
 pub form_is : (s : List ℕ) → text_form s ≡ number_form (reading s)
 form_is s =
-    elim (is_nought s) as (λ v. cond v Short (signed_form s) ≡ number_form (cond v (Some nought) (signed_reading s))) [
+    elim (is_nought s) as (λ v. cond v (Some Short) (signed_form s) ≡ number_form (cond v (Some nought) (signed_reading s))) [
       | true ↦ refl
       | false ↦ signed_is s
     ]

@@ -1,7 +1,6 @@
 -- A text cut into its parts, and the digits and the point place that the parts give.
 use Rattle.std.proofs.Common.{ℕ, zero, suc, ◌-◌, Bool, true, false, cond, ◌&&◌, eqb, ltb, leb, List, [], ◌∷◌, ◌++◌, length, drop, ℤ, pos, negsuc, Some, None, Option}
 use Rattle.numerals.specs.declared.form.Form.{Form}
-use Rattle.numerals.specs.declared.form.Form.TheVariants.{Other}
 use Rattle.numerals.specs.Deciding.{front, rest, trim, leading, begins, ends, value, is_lone, form_of}
 
 -- A text by its parts: digits; digits on both sides of a point; either with `e`, a sign and digits after it; or
@@ -79,6 +78,6 @@ abbrev pub far : ℤ → Bool
 far (pos n) = ltb 300 n
 far (negsuc n) = ltb 300 (suc n)
 
-abbrev pub figure_form : Option Figure → Form
-figure_form None = Other
-figure_form (Some f) = form_of (length f.digits) (far f.place)
+abbrev pub figure_form : Option Figure → Option Form
+figure_form None = None
+figure_form (Some f) = Some (form_of (length f.digits) (far f.place))

@@ -1,8 +1,8 @@
 // The form of a text, part by part.
 ghost use Rattle.std.specs.Prelude.{◌≡◌};
-ghost use Rattle.numerals.specs.Deciding.{point_form, unsigned_form, fraction_form, front, is_lone, is_nought, exponent_form, rest, signed_form, form_of, power_form, text_form, whole_form};
+ghost use Rattle.numerals.specs.Deciding.{point_form, unsigned_form, fraction_form, front, is_lone, exponent_form, rest, signed_form, form_of, power_form, text_form, whole_form};
 
-use crate::digits::{begins_well, ends_well, leading_zeros, saturated, significant, split_digits};
+use crate::digits::Digits;
 
 // No exponent is written where the point place is from -5 to 21.
 const LAST_PLACE: usize = 21;
@@ -22,10 +22,9 @@ const LONG_PLUS: usize = 300;
 
 const LONG_MINUS: usize = 302;
 
-// Whether a text has number form, and then whether of a long number.
-#[derive(Clone, Copy, Drop)]
+// Number form, of a number that is not long or of one that is. The functions below answer none where a text has none.
+#[derive(Clone, Copy, Debug, PartialEq, Eq, Drop)]
 pub(crate) enum Form {
-    Other,
     Short,
     Long,
 }
@@ -42,135 +41,105 @@ fn form_of(digits: usize, far: bool) -> Form
 }
 
 // Digits alone.
-fn whole_form(digits: &[u8]) -> Form
-    ensures { result ≡ whole_form digits.now }
+fn whole_form(digits: Digits) -> Option<Form>
+    ensures { result ≡ whole_form digits.entry.bytes.now }
 {
-    if begins_well(digits) && digits.len() <= LAST_PLACE {
-        form_of(significant(digits), false)
-    } else {
-        Form::Other
-    }
+    let is_whole = digits.begins_well() && digits.len() <= LAST_PLACE;
+    is_whole.then_some(form_of(digits.significant(), false))
 }
 
 // Digits on both sides of a point. A `0` before it may be followed by a few more after it.
-fn fraction_form<'a>(before: &'a [u8], after: &'a [u8]) -> Form
-    ensures { result ≡ fraction_form before.now after.now }
+fn fraction_form<'a>(before: Digits<'a>, after: Digits<'a>) -> Option<Form>
+    ensures { result ≡ fraction_form before.entry.bytes.now after.entry.bytes.now }
 {
-    if !ends_well(after) {
-        return Form::Other;
+    if !after.ends_well() {
+        return None;
     }
-    if begins_well(before) {
-        if before.len() <= LAST_PLACE {
-            return form_of(before.len() + after.len(), false);
-        }
-        return Form::Other;
+    if before.begins_well() {
+        return (before.len() <= LAST_PLACE).then_some(form_of(before.len() + after.len(), false));
     }
-    let zeros = leading_zeros(after);
-    if before.len() == 1 && zeros <= MOST_ZEROS {
-        form_of(after.len() - zeros, false)
-    } else {
-        Form::Other
-    }
+    let zeros = after.leading_zeros();
+    (before.len() == 1 && zeros <= MOST_ZEROS).then_some(form_of(after.len() - zeros, false))
 }
 
 // Whether these are one digit, and not 0.
-fn is_lone(digits: &[u8]) -> bool
-    ensures { result ≡ is_lone digits.now }
+fn is_lone(digits: Digits) -> bool
+    ensures { result ≡ is_lone digits.entry.bytes.now }
 {
-    begins_well(digits) && digits.len() == 1
+    digits.begins_well() && digits.len() == 1
 }
 
 // A sign and the digits of an exponent, with so many digits before the `e`. The exponent is compared only with
 // numbers that are less than where it saturates.
-fn exponent_form(digits: usize, sign: u8, exponent: &[u8]) -> Form
-    requires { front exponent.now ≡ exponent.now }
-    ensures { result ≡ exponent_form digits sign exponent.now }
+fn exponent_form(digits: usize, sign: u8, exponent: Digits) -> Option<Form>
+    ensures { result ≡ exponent_form digits sign exponent.entry.bytes.now }
 {
-    if !begins_well(exponent) {
-        return Form::Other;
+    if !exponent.begins_well() {
+        return None;
     }
-    let size = saturated(exponent);
-    if sign == b'+' && size >= LEAST_PLUS {
-        return form_of(digits, size >= LONG_PLUS);
+    let size = exponent.saturated();
+    match sign {
+        b'+' if size >= LEAST_PLUS => Some(form_of(digits, size >= LONG_PLUS)),
+        b'-' if size >= LEAST_MINUS => Some(form_of(digits, size >= LONG_MINUS)),
+        _ => None,
     }
-    if sign == b'-' && size >= LEAST_MINUS {
-        return form_of(digits, size >= LONG_MINUS);
-    }
-    Form::Other
 }
 
 // What follows an `e`, with so many digits before it.
-fn power_form(digits: usize, text: &[u8]) -> Form
+fn power_form(digits: usize, text: &[u8]) -> Option<Form>
     ensures { result ≡ power_form digits text.now }
 {
-    let Some((sign, tail)) = text.split_first() else {
-        return Form::Other;
-    };
-    let (exponent, rest) = split_digits(tail);
-    if !rest.is_empty() {
-        return Form::Other;
+    let (sign, tail) = text.split_first()?;
+    match Digits::split(tail) {
+        (exponent, []) => exponent_form(digits, *sign, exponent),
+        _ => None,
     }
-    exponent_form(digits, *sign, exponent)
 }
 
 // What follows a point.
-fn point_form<'a>(before: &'a [u8], text: &'a [u8]) -> Form
-    ensures { result ≡ point_form before.now (front text.now) (rest text.now) }
+fn point_form<'a>(before: Digits<'a>, text: &'a [u8]) -> Option<Form>
+    ensures { result ≡ point_form before.entry.bytes.now (front text.now) (rest text.now) }
 {
-    let (after, rest) = split_digits(text);
-    let Some((mark, tail)) = rest.split_first() else {
-        return fraction_form(before, after);
-    };
-    if *mark == b'e' && is_lone(before) && ends_well(after) {
-        return power_form(1 + after.len(), tail);
+    let (after, rest) = Digits::split(text);
+    match rest {
+        [] => fraction_form(before, after),
+        [b'e', tail @ ..] if is_lone(before) && after.ends_well() => {
+            power_form(1 + after.len(), tail)
+        }
+        _ => None,
     }
-    Form::Other
 }
 
 // A text without a sign.
-fn unsigned_form(text: &[u8]) -> Form
+fn unsigned_form(text: &[u8]) -> Option<Form>
     ensures { result ≡ unsigned_form text.now }
 {
-    let (digits, rest) = split_digits(text);
-    let Some((mark, tail)) = rest.split_first() else {
-        return whole_form(digits);
-    };
-    if *mark == b'.' {
-        return point_form(digits, tail);
+    let (digits, rest) = Digits::split(text);
+    match rest {
+        [] => whole_form(digits),
+        [b'.', tail @ ..] => point_form(digits, tail),
+        [b'e', tail @ ..] if is_lone(digits) => power_form(1, tail),
+        _ => None,
     }
-    if *mark == b'e' && is_lone(digits) {
-        return power_form(1, tail);
-    }
-    Form::Other
 }
 
 // A text that may begin with a minus.
-fn signed_form(text: &[u8]) -> Form
+fn signed_form(text: &[u8]) -> Option<Form>
     ensures { result ≡ signed_form text.now }
 {
-    let Some((first, tail)) = text.split_first() else {
-        return Form::Other;
-    };
-    if *first == b'-' {
-        return unsigned_form(tail);
+    match text {
+        [] => None,
+        [b'-', tail @ ..] => unsigned_form(tail),
+        _ => unsigned_form(text),
     }
-    unsigned_form(text)
 }
 
-// Whether the text is `0`, the one numeral that begins with `0` and has no point. It has no sign.
-fn is_nought(text: &[u8]) -> bool
-    ensures { result ≡ is_nought text.now }
-{
-    text.len() == 1 && text[0] == b'0'
-}
-
-// The form of a text.
-pub(crate) fn text_form(text: &[u8]) -> Form
+// The form of a text. `0` is the one numeral that begins with `0` and has no point. It has no sign.
+pub(crate) fn text_form(text: &[u8]) -> Option<Form>
     ensures { result ≡ text_form text.now }
 {
-    if is_nought(text) {
-        Form::Short
-    } else {
-        signed_form(text)
+    match text {
+        b"0" => Some(Form::Short),
+        _ => signed_form(text),
     }
 }

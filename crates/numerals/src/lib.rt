@@ -15,11 +15,7 @@ pub fn is_number_form(text: &[u8]) -> bool
     ensures exactly { Decides result (HasForm text.now) }
     ensures unique { OneNumber text.now }
 {
-    match text_form(text) {
-        Form::Other => false,
-        Form::Short => true,
-        Form::Long => true,
-    }
+    text_form(text).is_some()
 }
 
 // Whether a number is written so that has over 15 digits, or a point place above 300 or below -300.
@@ -27,25 +23,15 @@ pub fn is_long_number(text: &[u8]) -> bool
     ensures exactly { Decides result (HasLongForm text.now) }
     ensures unique { OneNumber text.now }
 {
-    match text_form(text) {
-        Form::Other => false,
-        Form::Short => false,
-        Form::Long => true,
-    }
-}
-
-// Whether two texts are the same.
-fn same<'a>(text: &'a [u8], other: &'a [u8]) -> bool
-    ensures { Decides result (text.now ≡ other.now) }
-{
-    text == other
+    text_form(text) == Some(Form::Long)
 }
 
 // Whether the text is one of the four that are canonical and have no number form.
+#[tactic(auto, using(std::proofs::lemmas::Slice::Eq::text_from_reads))]
 fn is_special(text: &[u8]) -> bool
     ensures { Decides result (Special text.now) }
 {
-    same(text, b"-0") || same(text, b"NaN") || same(text, b"Infinity") || same(text, b"-Infinity")
+    matches!(text, b"-0" | b"NaN" | b"Infinity" | b"-Infinity")
 }
 
 // Whether the text has number form of a number that is not long, or is `-0`, `NaN`, `Infinity` or `-Infinity`.
@@ -53,9 +39,5 @@ pub fn is_canonical_numeric(text: &[u8]) -> bool
     ensures exactly { Decides result (Canonical text.now) }
     ensures unique { OneNumber text.now }
 {
-    match text_form(text) {
-        Form::Short => true,
-        Form::Other => is_special(text),
-        Form::Long => is_special(text),
-    }
+    text_form(text) == Some(Form::Short) || is_special(text)
 }

@@ -3,9 +3,11 @@
 
 mod cache;
 mod give;
+mod given;
 mod places;
 mod words;
 
 pub use cache::{CACHE_LIMIT, ManglePropertyCache};
+pub use given::checked_name;
 pub use places::{PLACE_LIMIT, Places};
 pub use words::{ReservedWords, WORD_LIMIT};

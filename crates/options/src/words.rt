@@ -1,12 +1,14 @@
 // The reserved words: names that no property is shortened to, and that stay as they are.
-ghost use Rattle.std.specs.Prelude.{◌≡◌};
-ghost use Rattle.options.specs.Giving.{Gives, Kept, less, name_fault, name_of};
+ghost use Rattle.std.specs.Prelude.{◌≡◌, OnErr};
+ghost use Rattle.names.specs.Names.{before, name_of};
+ghost use Rattle.options.specs.Giving.{Gives, name_fault};
 ghost use Rattle.table.specs.Rows.{Sound, SameMemory};
 
 use crate::give::give;
-use names::{Name, is_foreign};
+use crate::given::{NO_NODE, checked_name};
+use names::Name;
 use pages::Refusal;
-use table::Table;
+use table::{Entry, Table};
 
 // The most reserved words.
 pub const WORD_LIMIT: usize = 1_024;
@@ -16,19 +18,25 @@ pub struct ReservedWords<'a> {
     pub table: Table<'a, Name, ()>,
 }
 
-impl ReservedWords<'_> {
+impl<'a> ReservedWords<'a> {
+    // No reserved words, in memory that is lent for them.
+    pub fn new(entries: &'a mut [Entry<Name, ()>]) -> ReservedWords<'a>
+        ensures empty { result.table.len ≡ 0 }
+        ensures lent { result.table.entries ≡ entries.entry }
+        ensures sound { Sound before result.table }
+    {
+        ReservedWords {
+            table: Table::new(entries),
+        }
+    }
+
     // Reserves a word; one that is there already stays.
     pub fn reserve<'b>(&mut self, word: &'b [u8]) -> Result<(), Refusal<'b>>
         ensures lent { SameMemory self.old.table self.new.table }
-        ensures refused { Kept self.old.table self.new.table result }
-        ensures gives { Sound less self.old.table → Gives less 1024 (name_fault word.now) (name_of word.now) tt self.old.table self.new.table result }
+        ensures refused { OnErr result (self.new.table ≡ self.old.table) }
+        ensures gives { Sound before self.old.table → Gives before 1024 (name_fault word.now) (name_of word.now) tt self.old.table self.new.table result }
     {
-        let Some(key) = Name::new(word) else {
-            return Err(Refusal::Long(0));
-        };
-        if is_foreign(word) {
-            return Err(Refusal::Foreign(0));
-        }
+        let key = checked_name(NO_NODE, word)?;
         give(&mut self.table, WORD_LIMIT, key, ())
     }
 }

@@ -1,11 +1,10 @@
 -- The steps of the walk over a subtree.
-use Rattle.std.proofs.Common.{◌≡◌, ℕ, suc, ◌+◌, ◌-◌, ◌<◌, ◌≤◌, true, false, List, [], ◌∷◌, map, length, get_or, drop, None, Ok, Err, sym, ap, ◌∙◌, arith, drop_of_length-le}
+use Rattle.std.proofs.Common.{◌≡◌, ℕ, suc, ◌+◌, ◌-◌, ◌<◌, ◌≤◌, Bool, true, false, List, [], ◌∷◌, map, length, get_or, drop, Ok, Err, sym, ap, ap₂, refl, ◌∙◌, arith, drop_of_length-le, length-drop}
 use lib.ListN.{length-map}
 use Rattle.std.proofs.lemmas.List.{drop-map, drop_more}
 use Rattle.std.proofs.lemmas.Bool.{lt-ltb, le-ltb}
 use Rattle.pages.proofs.Judging.{judge_misshapen, judge_deep, judge_on}
 use Rattle.pages.specs.declared.kind.Kind.{Kind}
-use Rattle.pages.specs.declared.kind.Kind.TheVariants.{Node as ZeroKind}
 use Rattle.pages.specs.declared.refusal.Refusal.{Refusal}
 use Rattle.pages.specs.declared.refusal.Refusal.TheVariants.{Misshapen, Deep}
 use Rattle.pages.specs.declared.row.Flags.{Flags}
@@ -56,62 +55,57 @@ module _ (ns : List Node) (k : Kind) (fl : Flags) (children level i : ℕ) where
         → answer (judge (pend children (Child k fl 0) level s) (i + 1) (drop (i + 1) ns)) ≡ Err r
     walking_stops r p s = ap answer (pending s) ∙ p.refused (children - (position + 1)) s
 
--- a row of zeros, which the code reads past the end
-abbrev pub cleared : Row
-cleared =
-    record { kind = ZeroKind; flags = record { optional = false; computed = false; shorthand = false }; start = 0; text = None; children = 0 }
-
 pub length_shown : (s : List ℕ) (rows : List Row) → length (shown s rows) ≡ length rows
 length_shown s rows = length-map rows (shows s)
 
-pub shown_from : (s : List ℕ) (rows : List Row) (i : ℕ) (d : Row) → i < length rows
-    → drop i (shown s rows) ≡ shows s (get_or rows i d) ∷ drop (i + 1) (shown s rows)
-shown_from s rows i d h =
-    drop-map (shows s) i rows ∙ ap (map (shows s)) (drop_more rows i d h)
-    ∙ ap (λ (ns : List Node). shows s (get_or rows i d) ∷ ns) (sym (drop-map (shows s) (i + 1) rows))
+-- A row that was looked up, and whether it was found shapely.
+module _ (t : List ℕ) (rows : List Row) (p : Place) (level i : ℕ) (r : Row) (within : i < length rows) (got : r ≡ get_or rows i r) where
+  shown_here : drop i (shown t rows) ≡ shows t r ∷ drop (i + 1) (shown t rows)
+  shown_here =
+      drop-map (shows t) i rows ∙ ap (map (shows t)) (drop_more rows i r within)
+      ∙ ap₂ {B = List Node} (λ (x : Row) (ns : List Node). shows t x ∷ ns) (sym got) (sym (drop-map (shows t) (i + 1) rows))
 
-module _ (ns : List Node) (p : Place) (level i : ℕ) where
-  pub stops_at_end : length ns ≤ i → Stops ns p level i (Misshapen i)
-  stops_at_end h = let e : drop i ns ≡ [] = drop_of_length-le ns h in
-      record { refused = λ n s. ap (λ (ms : List Node). answer (judge (pend (suc n) p level s) i ms)) e }
+  judge_here : (n : ℕ) (s : List Entry)
+      → judge (pend (suc n) p level s) i (drop i (shown t rows)) ≡ judge (pend (suc n) p level s) i (shows t r ∷ drop (i + 1) (shown t rows))
+  judge_here n s = ap (judge (pend (suc n) p level s) i) shown_here
 
-  -- the node with number `i` is `m`
-  module _ (m : Node) (here : drop i ns ≡ m ∷ drop (i + 1) ns) where
-    judge_here : (n : ℕ) (s : List Entry)
-        → judge (pend (suc n) p level s) i (drop i ns) ≡ judge (pend (suc n) p level s) i (m ∷ drop (i + 1) ns)
-    judge_here n s = ap (judge (pend (suc n) p level s) i) here
-
-    pub stops_misshapen : shapely (record { place = p; level = level; node = m }) ≡ false → Stops ns p level i (Misshapen i)
+  module _ (found : Bool) (judged : found ≡ shapely (record { place = p; level = level; node = shows t r })) where
+    pub stops_misshapen : found ≡ false → Stops (shown t rows) p level i (Misshapen i)
     stops_misshapen f =
-        record { refused = λ n s. ap answer (judge_here n s ∙ judge_misshapen (record { place = p; level = level; after = n }) s i m (drop (i + 1) ns) f) }
+        record { refused = λ n s. ap answer (judge_here n s ∙ judge_misshapen (record { place = p; level = level; after = n }) s i (shows t r) (drop (i + 1) (shown t rows)) (sym judged ∙ f)) }
 
-    module _ (fine : shapely (record { place = p; level = level; node = m }) ≡ true) where
-      pub stops_deep : 64 < level → Stops ns p level i (Deep i)
+    module _ (fine : found ≡ true) where
+      pub stops_deep : 64 < level → Stops (shown t rows) p level i (Deep i)
       stops_deep h =
-          record { refused = λ n s. ap answer (judge_here n s ∙ judge_deep (record { place = p; level = level; after = n }) s i m (drop (i + 1) ns) fine (lt-ltb 64 level h)) }
+          record { refused = λ n s. ap answer (judge_here n s ∙ judge_deep (record { place = p; level = level; after = n }) s i (shows t r) (drop (i + 1) (shown t rows)) (sym judged ∙ fine) (lt-ltb 64 level h)) }
 
       -- the judgement goes on with the children
       judge_children : level ≤ 64 → (n : ℕ) (s : List Entry)
-          → judge (pend (suc n) p level s) i (drop i ns)
-          ≡ judge (push m (level + 1) (pend n (next_place p) level s)) (i + 1) (drop (i + 1) ns)
+          → judge (pend (suc n) p level s) i (drop i (shown t rows))
+          ≡ judge (push (shows t r) (level + 1) (pend n (next_place p) level s)) (i + 1) (drop (i + 1) (shown t rows))
       judge_children h n s =
-          judge_here n s ∙ judge_on (record { place = p; level = level; after = n }) s i m (drop (i + 1) ns) fine (le-ltb 64 level h)
+          judge_here n s ∙ judge_on (record { place = p; level = level; after = n }) s i (shows t r) (drop (i + 1) (shown t rows)) (sym judged ∙ fine) (le-ltb 64 level h)
 
-      pub stops_below : level ≤ 64 → (r : Refusal)
-          → ((s : List Entry) → answer (judge (push m (level + 1) s) (i + 1) (drop (i + 1) ns)) ≡ Err r) → Stops ns p level i r
-      stops_below h r g =
+      pub stops_below : level ≤ 64 → (e : Refusal)
+          → ((s : List Entry) → answer (judge (push (shows t r) (level + 1) s) (i + 1) (drop (i + 1) (shown t rows))) ≡ Err e) → Stops (shown t rows) p level i e
+      stops_below h e g =
           record { refused = λ n s. ap answer (judge_children h n s) ∙ g (pend n (next_place p) level s) }
 
       pub passes_all : level ≤ 64 → (position next : ℕ)
-          → Walking ns m.label.kind m.label.flags m.children position (level + 1) i next → m.children ≤ position → Passes ns p level i next
+          → Walking (shown t rows) r.kind r.flags r.children position (level + 1) i next → r.children ≤ position → Passes (shown t rows) p level i next
       passes_all h position next w all =
-          let e : m.children - position ≡ 0 = omega arith in
+          let e : r.children - position ≡ 0 = omega arith in
           record {
             later = w.later;
             within = w.within;
             onward = λ n s. judge_children h n s ∙ w.onward (pend n (next_place p) level s)
-                ∙ ap (λ (k : ℕ). judge (pend k (Child m.label.kind m.label.flags position) (level + 1) (pend n (next_place p) level s)) next (drop next ns)) e;
+                ∙ ap (λ (k : ℕ). judge (pend k (Child r.kind r.flags position) (level + 1) (pend n (next_place p) level s)) next (drop next (shown t rows))) e;
           }
+
+-- nodes are left over where no place is
+none_pending : (i : ℕ) (ns : List Node) → 0 < length ns → answer (judge [] i ns) ≡ Err (Misshapen i)
+none_pending i [] h = absurd (omega arith)
+none_pending i (n ∷ ns) h = refl
 
 -- the answers after the walk over the whole tree
 module _ (ns : List Node) where
@@ -123,6 +117,6 @@ module _ (ns : List Node) where
       let e : drop next ns ≡ [] = drop_of_length-le ns h in
       ap answer (p.onward 0 [] ∙ ap (judge [] next) e)
 
-  pub answer_left_over : (next : ℕ) → Passes ns Root 1 0 next → (m : Node) → drop next ns ≡ m ∷ drop (next + 1) ns
-      → answer (judge start 0 ns) ≡ Err (Misshapen next)
-  answer_left_over next p m e = ap answer (p.onward 0 [] ∙ ap (judge [] next) e)
+  pub answer_left_over : (next : ℕ) → Passes ns Root 1 0 next → next < length ns → answer (judge start 0 ns) ≡ Err (Misshapen next)
+  answer_left_over next p h =
+      ap answer (p.onward 0 []) ∙ none_pending next (drop next ns) (omega (arith, length-drop next ns))

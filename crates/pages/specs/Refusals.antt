@@ -1,5 +1,6 @@
 -- The number and the place that are told of each refusal, and how a verdict on rows is answered.
-use Rattle.std.specs.Prelude.{◌≡◌, ℕ, List, Ok, Err, Result}
+use Rattle.std.specs.Prelude.{◌≡◌, ℕ, List, ◌∷◌, ◌++◌, Ok, Err, Result}
+use Rattle.std.specs.Fmt.{decimal}
 use Rattle.pages.specs.declared.refusal.Refusal.{Refusal}
 use Rattle.pages.specs.declared.refusal.Refusal.TheVariants.{Misshapen, Deep, Unread, Long, Foreign, BadPin, LongNumber, Spent, Overfull}
 use Rattle.pages.specs.Shape.{Verdict, lawful, misshapen, deep, Judged}
@@ -27,6 +28,10 @@ place_of (BadPin a b) = 0
 place_of (LongNumber n) = n
 place_of (Spent n) = n
 place_of Overfull = 0
+
+-- the bytes that a refusal is printed as: its number, a blank and its place, both in decimal
+abbrev pub told : Refusal → List ℕ
+told r = decimal (number_of r) ++ 32 ∷ decimal (place_of r)
 
 -- the answer to rows of which this was found
 abbrev pub answer : Verdict → Result (Unit {0}) Refusal

@@ -3,8 +3,9 @@ ghost use Rattle.std.specs.Prelude.{◌≡◌};
 ghost use Rattle.pages.specs.Kinds.{rule};
 
 // `Node` is the zero kind: a cleared row has it.
-#[derive(Clone, Copy, PartialEq, Eq)]
+#[derive(Clone, Copy, Debug, Default, PartialEq, Eq)]
 pub enum Kind {
+    #[default]
     Node,
     Name,
     Number,
@@ -33,7 +34,7 @@ pub enum Kind {
 }
 
 // Whether a node has a text. `Childless`: maybe, and none if it has children.
-#[derive(Clone, Copy, PartialEq, Eq)]
+#[derive(Clone, Copy, Debug, PartialEq, Eq)]
 pub enum Texts {
     Never,
     Always,
@@ -43,7 +44,7 @@ pub enum Texts {
 
 // What a kind is in the place of a key: a plain or private key, which stand nowhere else; a literal,
 // which may be a key as it is; or an expression, which has to be computed.
-#[derive(Clone, Copy, PartialEq, Eq)]
+#[derive(Clone, Copy, Debug, PartialEq, Eq)]
 pub enum Standing {
     PlainKey,
     PrivateKey,
@@ -143,30 +144,23 @@ impl Kind {
     pub(crate) fn takes_optional(self) -> bool
         ensures { result ≡ (rule self).optional }
     {
-        match self {
-            Kind::Member | Kind::Index | Kind::Slot => true,
-            _ => false,
-        }
+        matches!(self, Kind::Member | Kind::Index | Kind::Slot)
     }
 
     // The kinds that can be computed are those whose first child is a key.
     pub(crate) fn takes_computed(self) -> bool
         ensures { result ≡ (rule self).computed }
     {
-        match self {
-            Kind::Prop | Kind::Bind | Kind::Full | Kind::Method | Kind::Field | Kind::Accessor =>
-                true,
-            _ => false,
-        }
+        matches!(
+            self,
+            Kind::Prop | Kind::Bind | Kind::Full | Kind::Method | Kind::Field | Kind::Accessor
+        )
     }
 
     pub(crate) fn takes_shorthand(self) -> bool
         ensures { result ≡ (rule self).shorthand }
     {
-        match self {
-            Kind::Prop | Kind::Bind => true,
-            _ => false,
-        }
+        matches!(self, Kind::Prop | Kind::Bind)
     }
 
     pub(crate) fn standing(self) -> Standing

@@ -10,5 +10,8 @@ mod shape;
 pub use kind::Kind;
 pub use memory::clear;
 pub use refusal::Refusal;
-pub use row::{CLEARED, Flags, LEVEL_LIMIT, NO_FLAGS, NODE_LIMIT, Part, Row, TEXT_LIMIT};
-pub use shape::{Place, check_shape, is_shapely};
+pub use row::{
+    CLEARED, Flags, LEVEL_LIMIT, NO_FLAGS, NODE_LIMIT, Nodes, Part, Row, TEXT_LIMIT,
+    is_within_limits,
+};
+pub use shape::{Place, is_shapely};

@@ -1,9 +1,12 @@
 // Why a call is refused.
-ghost use Rattle.std.specs.Prelude.{◌≡◌};
-ghost use Rattle.pages.specs.Refusals.{number_of, place_of};
+ghost use Rattle.std.specs.Prelude.{◌≡◌, Some};
+ghost use Rattle.pages.specs.Refusals.{number_of, place_of, told};
+
+use std::error::Error;
+use std::fmt;
 
 // Each case has exactly the values that are told of it.
-#[derive(Clone, Copy, PartialEq, Eq)]
+#[derive(Clone, Copy, Debug, PartialEq, Eq)]
 pub enum Refusal<'a> {
     // rows that form no lawful tree: the node
     Misshapen(usize),
@@ -26,7 +29,7 @@ pub enum Refusal<'a> {
 }
 
 impl Refusal<'_> {
-    // Which case this is, counted from 1.
+    // Which case this is, counted from 1. The numbers are fixed: they are what a program prints (docs/RULES.md).
     pub fn number(&self) -> u8
         ensures { result ≡ number_of self.now }
     {
@@ -43,7 +46,7 @@ impl Refusal<'_> {
         }
     }
 
-    // The node, byte or rank that is told; 0 where there is none to tell.
+    // The node, byte or rank that is told; 0 where there is none to tell, since a place is always printed too.
     pub fn place(&self) -> usize
         ensures { result ≡ place_of self.now }
     {
@@ -59,3 +62,14 @@ impl Refusal<'_> {
         }
     }
 }
+
+// Its number and its place.
+impl fmt::Display for Refusal<'_> {
+    ghost output = { λ r. Some (told r) };
+
+    fn fmt<W: fmt::Write>(&self, f: &mut fmt::Formatter<W>) -> fmt::Result {
+        write!(f, "{} {}", self.number(), self.place())
+    }
+}
+
+impl Error for Refusal<'_> {}

@@ -1,22 +1,25 @@
 // A row holds one node of a page; rows stand parent first, children in order.
+ghost use Rattle.std.specs.Prelude.{◌≡◌, ◌&&◌, nat_le};
+
 use crate::kind::Kind;
 
 // What a node may be marked with: optional (`o`), computed (`c`), shorthand (`s`).
-#[derive(Clone, Copy, PartialEq, Eq)]
+#[derive(Clone, Copy, Debug, Default, PartialEq, Eq)]
 pub struct Flags {
     pub optional: bool,
     pub computed: bool,
     pub shorthand: bool,
 }
 
-// A part of the page's text bytes.
-#[derive(Clone, Copy, PartialEq, Eq)]
+// A part of the page's text bytes. Its form is fixed by a rule of the project: an offset and a length, no reference.
+#[derive(Clone, Copy, Debug, PartialEq, Eq)]
 pub struct Part {
     pub offset: usize,
     pub length: usize,
 }
 
-#[derive(Clone, Copy, PartialEq, Eq)]
+// A node. Its form is fixed by a rule of the project: rows hold a tree parent first, each with its number of children.
+#[derive(Clone, Copy, Debug, Default, PartialEq, Eq)]
 pub struct Row {
     pub kind: Kind,
     pub flags: Flags,
@@ -25,7 +28,14 @@ pub struct Row {
     pub children: usize,
 }
 
-// No flag is set.
+// The rows of a page's nodes, and the bytes in which their texts lie.
+#[derive(Clone, Copy, Debug)]
+pub struct Nodes<'a> {
+    pub rows: &'a [Row],
+    pub text: &'a [u8],
+}
+
+// The default values, for constants: a constant's value may not call `default`. No flag is set.
 pub const NO_FLAGS: Flags = Flags {
     optional: false,
     computed: false,
@@ -48,3 +58,10 @@ pub const LEVEL_LIMIT: usize = 64;
 pub const NODE_LIMIT: usize = 65_536;
 
 pub const TEXT_LIMIT: usize = 1_048_576;
+
+// Whether a page of so many nodes and text bytes keeps the limits on every page.
+pub fn is_within_limits(nodes: usize, bytes: usize) -> bool
+    ensures { result ≡ (nat_le nodes 65536 && nat_le bytes 1048576) }
+{
+    nodes <= NODE_LIMIT && bytes <= TEXT_LIMIT
+}

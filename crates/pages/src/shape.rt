@@ -3,15 +3,15 @@ ghost use Rattle.std.specs.Prelude.{◌≡◌, ℕ, ◌+◌, List, length, Match
 ghost use Rattle.pages.specs.Kinds.{rule};
 ghost use Rattle.pages.specs.Pending.{Passes, Stops};
 ghost use Rattle.pages.specs.Refusals.{Checked};
-ghost use Rattle.pages.specs.Shape.{count_right, flags_right, key_right, literal_key, off_key, place_right, plain_key, shapely, text_right};
-ghost use Rattle.pages.specs.Trees.{bytes, shown, shows, text_in, without};
+ghost use Rattle.pages.specs.Shape.{count_right, flags_right, key_right, off_key, place_right, shapely, text_right};
+ghost use Rattle.pages.specs.Trees.{bytes, shown, shows, text_in};
 
 use crate::kind::{Kind, Standing, Texts};
 use crate::refusal::Refusal;
-use crate::row::{Flags, LEVEL_LIMIT, Part, Row};
+use crate::row::{Flags, LEVEL_LIMIT, Nodes, Part, Row};
 
 // Where a node stands: at the root, or as a child of a node, counted from 0.
-#[derive(Clone, Copy, PartialEq, Eq)]
+#[derive(Clone, Copy, Debug, PartialEq, Eq)]
 pub enum Place {
     Root,
     Child(Kind, Flags, usize),
@@ -21,55 +21,29 @@ pub enum Place {
 fn is_right_off_key(standing: Standing) -> bool
     ensures { result ≡ off_key standing }
 {
-    match standing {
-        Standing::PlainKey | Standing::PrivateKey => false,
-        Standing::Literal | Standing::Expression => true,
-    }
+    matches!(standing, Standing::Literal | Standing::Expression)
 }
 
-// As a key that is not computed.
-fn is_literal_key(standing: Standing) -> bool
-    ensures { result ≡ literal_key standing }
-{
-    match standing {
-        Standing::PlainKey | Standing::PrivateKey | Standing::Literal => true,
-        Standing::Expression => false,
-    }
-}
-
-fn is_plain_key(standing: Standing) -> bool
-    ensures { result ≡ plain_key standing }
-{
-    match standing {
-        Standing::PlainKey => true,
-        Standing::PrivateKey | Standing::Literal | Standing::Expression => false,
-    }
-}
-
-// As the key of a node with these flags.
+// As the key of a node with these flags: any expression if it is computed, else a literal; a plain key in a shorthand.
 fn is_key_right(flags: Flags, standing: Standing) -> bool
     ensures { result ≡ key_right flags standing }
 {
     let right = if flags.computed {
         is_right_off_key(standing)
     } else {
-        is_literal_key(standing)
+        standing != Standing::Expression
     };
-    right && (!flags.shorthand || is_plain_key(standing))
+    right && (!flags.shorthand || standing == Standing::PlainKey)
 }
 
 fn is_place_right(place: Place, kind: Kind) -> bool
     ensures { result ≡ place_right place kind }
 {
     match place {
-        Place::Root => is_right_off_key(kind.standing()),
-        Place::Child(parent, flags, position) => {
-            if parent.takes_computed() && position == 0 {
-                is_key_right(flags, kind.standing())
-            } else {
-                is_right_off_key(kind.standing())
-            }
+        Place::Child(parent, flags, 0) if parent.takes_computed() => {
+            is_key_right(flags, kind.standing())
         }
+        _ => is_right_off_key(kind.standing()),
     }
 }
 
@@ -77,16 +51,9 @@ fn is_place_right(place: Place, kind: Kind) -> bool
 fn lies_within(part: Part, text_len: usize) -> bool
     ensures { result ≡ nat_le (part.offset + part.length) text_len }
 {
-    part.offset <= text_len && part.length <= text_len - part.offset
-}
-
-fn may_lack_text(texts: Texts) -> bool
-    ensures { result ≡ text_right texts 0 without }
-{
-    match texts {
-        Texts::Always => false,
-        Texts::Never | Texts::Maybe | Texts::Childless => true,
-    }
+    part.offset
+        .checked_add(part.length)
+        .is_some_and(|end| end <= text_len)
 }
 
 fn may_have_text(texts: Texts, children: usize) -> bool
@@ -103,7 +70,7 @@ fn is_text_right(texts: Texts, children: usize, text: Option<Part>, text_len: us
     ensures { (s : List ℕ) → length s ≡ text_len → result ≡ text_right texts children (text_in s text) }
 {
     match text {
-        None => may_lack_text(texts),
+        None => texts != Texts::Always,
         Some(part) => lies_within(part, text_len) && may_have_text(texts, children),
     }
 }
@@ -111,10 +78,7 @@ fn is_text_right(texts: Texts, children: usize, text: Option<Part>, text_len: us
 fn is_count_right(kind: Kind, children: usize) -> bool
     ensures { result ≡ count_right (rule kind) children }
 {
-    match kind.most() {
-        None => kind.least() <= children,
-        Some(most) => kind.least() <= children && children <= most,
-    }
+    kind.least() <= children && kind.most().is_none_or(|most| children <= most)
 }
 
 fn are_flags_right(kind: Kind, flags: Flags) -> bool
@@ -135,50 +99,35 @@ pub fn is_shapely(place: Place, row: &Row, text_len: usize) -> bool
         && are_flags_right(row.kind, row.flags)
 }
 
-// The number of the row after the subtree that begins with the row `at`, whose node stands in this place.
-fn subtree<'a>(
-    rows: &'a [Row],
-    text: &'a [u8],
-    at: usize,
-    place: Place,
-    level: usize,
-) -> Result<usize, Refusal<'a>>
-    ensures { MatchResult result (Passes (shown text.now rows.now) place level «at») (Stops (shown text.now rows.now) place level «at») }
-{
-    if at >= rows.len() {
-        return Err(Refusal::Misshapen(at));
-    }
-    let row = rows[at];
-    if !is_shapely(place, &row, text.len()) {
-        return Err(Refusal::Misshapen(at));
-    }
-    if level > LEVEL_LIMIT {
-        return Err(Refusal::Deep(at));
-    }
-    let children = row.children;
-    let mut next = at + 1;
-    for position in 0..children {
-        let child = Place::Child(row.kind, row.flags, position);
-        match subtree(rows, text, next, child, level + 1) {
-            Err(refusal) => return Err(refusal),
-            Ok(after) => next = after,
+impl<'a> Nodes<'a> {
+    // Whether the rows, over this text, form a lawful tree; else the first node at which they do not.
+    pub fn check_shape(self) -> Result<(), Refusal<'a>>
+        ensures { Checked (shown self.entry.text.now self.entry.rows.now) result }
+    {
+        let next = self.subtree(0, Place::Root, 1)?;
+        if next < self.rows.len() {
+            Err(Refusal::Misshapen(next))
+        } else {
+            Ok(())
         }
     }
-    Ok(next)
-}
 
-// Whether the rows, over this text, form a lawful tree; else the first node at which they do not.
-pub fn check_shape<'a>(rows: &'a [Row], text: &'a [u8]) -> Result<(), Refusal<'a>>
-    ensures { Checked (shown text.now rows.now) result }
-{
-    match subtree(rows, text, 0, Place::Root, 1) {
-        Err(refusal) => Err(refusal),
-        Ok(next) => {
-            if next < rows.len() {
-                Err(Refusal::Misshapen(next))
-            } else {
-                Ok(())
-            }
+    // The number of the row after the subtree that begins with the row `at`, whose node stands in this place.
+    fn subtree(self, at: usize, place: Place, level: usize) -> Result<usize, Refusal<'a>>
+        ensures { MatchResult result (Passes (shown self.entry.text.now self.entry.rows.now) place level «at») (Stops (shown self.entry.text.now self.entry.rows.now) place level «at») }
+    {
+        let row = self.rows.get(at).ok_or(Refusal::Misshapen(at))?;
+        if !is_shapely(place, row, self.text.len()) {
+            return Err(Refusal::Misshapen(at));
         }
+        if level > LEVEL_LIMIT {
+            return Err(Refusal::Deep(at));
+        }
+        let mut next = at + 1;
+        for position in 0..row.children {
+            let child = Place::Child(row.kind, row.flags, position);
+            next = self.subtree(next, child, level + 1)?;
+        }
+        Ok(next)
     }
 }

@@ -1,4 +1,5 @@
-// Which children are walked as keys.
+// Which children are walked as keys. The rules' table is read by a parent's kind and a position, each for itself: a type
+// of the two would have no other use.
 ghost use Rattle.std.specs.Prelude.{◌≡◌};
 ghost use Rattle.positions.specs.Walks.{child_walk, key_child, passes_on};
 
@@ -28,7 +29,7 @@ fn passes_on(parent: Kind, position: usize, children: usize) -> bool
     match parent {
         Kind::Paren => true,
         Kind::Cond => position >= 1,
-        Kind::Seq => children > 0 && position == children - 1,
+        Kind::Seq => children.checked_sub(1) == Some(position),
         _ => false,
     }
 }

@@ -1,5 +1,5 @@
 -- Each way in which a reading ends, as its outcome.
-use Rattle.std.proofs.Common.{◌≡◌, ℕ, ◌-◌, ◌<◌, ◌≤◌, true, false, ◌&&◌, leb, List, [], ◌++◌, length, take, drop, replicate, Some, None, Ok, Err, Result, sym, refl, ap, ◌∙◌, subst, arith}
+use Rattle.std.proofs.Common.{◌≡◌, ℕ, ◌-◌, ◌<◌, true, false, ◌&&◌, leb, List, [], ◌++◌, length, take, drop, replicate, Some, None, Ok, Err, Result, sym, refl, ap, ◌∙◌, subst, arith}
 use Rattle.std.proofs.lemmas.List.{take_at}
 use Rattle.std.proofs.lemmas.Bool.{and_parts, and_from, le-leb, leb-true, both_ways}
 use Rattle.pages.specs.declared.refusal.Refusal.{Refusal}
@@ -85,7 +85,7 @@ module _ (s : List ℕ) (rows : List Row) (text : List ℕ) where
           }
 
       module _ (f : a.fault ≡ None) where
-        pub found_overfull : (leb a.nodes (length rows) && (leb a.nodes 65536 && (leb a.bytes (length text) && leb a.bytes 1048576))) ≡ false
+        pub found_overfull : (leb a.nodes (length rows) && (leb a.bytes (length text) && (leb a.nodes 65536 && leb a.bytes 1048576))) ≡ false
             → Finds s rows text (Err Overfull) rows' text'
         found_overfull h =
             let l = listed s (memory_of rows text) a (memory_of rows' text') e p in
@@ -94,8 +94,8 @@ module _ (s : List ℕ) (rows : List Row) (text : List ℕ) where
             let no_room : Fits l.tree (length rows) (length text) → ⊥ =
             λ r. both_ways _ h
             (and_from _ _ (le-leb a.nodes (length rows) (omega (arith, r.rows_handed)))
-            (and_from _ _ (le-leb a.nodes 65536 (omega (arith, r.rows_limit)))
-            (and_from _ _ (le-leb a.bytes (length text) (omega (arith, r.bytes_handed))) (le-leb a.bytes 1048576 (omega (arith, r.bytes_limit)))))) in
+            (and_from _ _ (le-leb a.bytes (length text) (omega (arith, r.bytes_handed)))
+            (and_from _ _ (le-leb a.nodes 65536 (omega (arith, r.rows_limit))) (le-leb a.bytes 1048576 (omega (arith, r.bytes_limit)))))) in
             record {
               outcome = overfull;
               comes = is_overfull l.tree l.listing (no_fault l.listing (ap (λ (x : Scan). x.fault) (sym l.scan_is) ∙ f)) no_room;
@@ -103,20 +103,20 @@ module _ (s : List ℕ) (rows : List Row) (text : List ℕ) where
               filled = λ t q. absurd (subst IsRead (sym q) tt);
             }
 
-        pub found_room : (leb a.nodes (length rows) && (leb a.nodes 65536 && (leb a.bytes (length text) && leb a.bytes 1048576))) ≡ true
+        pub found_room : (leb a.nodes (length rows) && (leb a.bytes (length text) && (leb a.nodes 65536 && leb a.bytes 1048576))) ≡ true
             → Finds s rows text (Ok (record { nodes = a.nodes; bytes = a.bytes })) rows' text'
         found_room h =
             let l = listed s (memory_of rows text) a (memory_of rows' text') e p in
             let n : a.nodes ≡ length (nodes l.tree) = ap (λ (x : Scan). x.nodes) l.scan_is in
             let b : a.bytes ≡ length (texts (nodes l.tree)) = ap (λ (x : Scan). x.bytes) l.scan_is in
             let first = and_parts (leb a.nodes (length rows)) _ h in
-            let second = and_parts (leb a.nodes 65536) _ first.1 in
-            let third = and_parts (leb a.bytes (length text)) (leb a.bytes 1048576) second.1 in
+            let second = and_parts (leb a.bytes (length text)) _ first.1 in
+            let third = and_parts (leb a.nodes 65536) (leb a.bytes 1048576) second.1 in
             let room : Fits l.tree (length rows) (length text) =
             record {
               rows_handed = omega (arith, leb-true a.nodes (length rows) first.0);
-              rows_limit = omega (arith, leb-true a.nodes 65536 second.0);
-              bytes_handed = omega (arith, leb-true a.bytes (length text) third.0);
+              rows_limit = omega (arith, leb-true a.nodes 65536 third.0);
+              bytes_handed = omega (arith, leb-true a.bytes (length text) second.0);
               bytes_limit = omega (arith, leb-true a.bytes 1048576 third.1);
             } in
             let r : rows' ≡ rows_after (read l.tree) rows =
@@ -165,23 +165,6 @@ module _ (s : List ℕ) (rows : List Row) (text : List ℕ) (rows' : List Row) (
         holds = λ u w. subst (λ (v : Tree). shown text' (take (length (nodes v)) rows') ≡ nodes v) (same_tree t u w) page;
       }
 
-  pub reads_made : (z : Size) → Finds s rows text (Ok z) rows' text' → Reads s rows text (Ok z) rows' text'
-  reads_made z f = made z f.comes f.answered f.filled
-
-  same_size : (y z : Size) → ◌≡◌ {A = Result Size Refusal} (Ok y) (Ok z) → y ≡ z
-  same_size y z e = cc
-
-  sized : (z : Size) {o : Outcome} → ComesTo s (length rows) (length text) o → Ok z ≡ answer_to o → (z.nodes ≤ length rows) × (z.bytes ≤ length text)
-  sized z (is_unread i x) e = absurd (ok_not_err z (Unread i) e)
-  sized z (is_misread t n l j) e = absurd (ok_not_err z (Misshapen n) e)
-  sized z (is_overfull t l j q) e = absurd (ok_not_err z Overfull e)
-  sized z (is_read t l j q) e =
-      subst (λ (y : Size). (y.nodes ≤ length rows) × (y.bytes ≤ length text)) (sym (same_size z _ e)) (q.rows_handed, q.bytes_handed)
-
-  -- a read page lies within the memory
-  pub size_within : (z : Size) → Finds s rows text (Ok z) rows' text' → (z.nodes ≤ length rows) × (z.bytes ≤ length text)
-  size_within z f = sized z f.comes f.answered
-
   refused : (x : Refusal) {o : Outcome} → ComesTo s (length rows) (length text) o → Err x ≡ answer_to o
       → rows' ≡ replicate (length rows) zero_row → text' ≡ replicate (length text) 0 → Reads s rows text (Err x) rows' text'
   refused x (is_read t l j q) e r c = absurd (ok_not_err _ x (sym e))
@@ -218,6 +201,12 @@ module _ (s : List ℕ) (rows : List Row) (text : List ℕ) (rows' : List Row) (
         one_tree = listing_one_tree s;
         holds = λ u w. absurd (subst IsRead (sym w) tt);
       }
+
+-- a page that is read stays as it is in the memory
+pub reads_made : (s : List ℕ) (rows : List Row) (text : List ℕ) (rows' rows'' : List Row) (text' text'' : List ℕ) (z : Size)
+    → Finds s rows text (Ok z) rows' text' → rows'' ≡ rows' → text'' ≡ text' → Reads s rows text (Ok z) rows'' text''
+reads_made s rows text rows' rows'' text' text'' z f r c =
+    rw (r, c) (made s rows text rows' text' z f.comes f.answered f.filled)
 
 -- a refused reading, once all its memory is cleared
 pub reads_refused : (s : List ℕ) (rows : List Row) (text : List ℕ) (x : Refusal) (rows' rows'' : List Row) (text' text'' : List ℕ)

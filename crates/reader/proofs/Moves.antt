@@ -1,7 +1,7 @@
 -- What the reader's changes come to in its description.
-use Rattle.std.proofs.Common.{◌≡◌, ℕ, zero, suc, ◌+◌, ◌-◌, ◌<◌, ◌≤◌, min, Bool, true, false, eqb, ltb, List, [], ◌∷◌, ◌++◌, length, get_or, take, set, sym, refl, ap, ◌∙◌, inl, inr, arith}
-use Rattle.std.proofs.lemmas.List.{length-append, length-take, take_more_set, take_all}
-use Rattle.std.proofs.lemmas.Bool.{cond-true, lt-ltb, and_parts, or_cases, both_ways, cases_lt}
+use Rattle.std.proofs.Common.{◌≡◌, ℕ, ◌+◌, ◌-◌, ◌<◌, ◌≤◌, min, Bool, true, false, eqb, ltb, List, [], ◌∷◌, ◌++◌, length, get_or, take, set, sym, refl, ap, ◌∙◌, inl, inr, arith, get_or-take}
+use Rattle.std.proofs.lemmas.List.{length-append, length-take}
+use Rattle.std.proofs.lemmas.Bool.{cond-true, lt-ltb, and_parts, or_cases, both_ways}
 use Rattle.pages.specs.declared.shape.Place.TheVariants.{Child}
 use Rattle.pages.specs.declared.kind.Kind.{Kind}
 use Rattle.grammar.specs.Words.{word, kinds}
@@ -9,9 +9,8 @@ use Rattle.grammar.specs.Reading.{zero_row}
 use Rattle.grammar.specs.Scan as scan
 use Rattle.grammar.specs.Scan.{Scan, Step, opened, quiet, restacked, innermost, with_child, open_bracket, place_in, prefix, some_begins, begun, phase_in}
 use Rattle.reader.specs.declared.open.Open.{Open}
-use Rattle.reader.specs.declared.open.State.TheVariants.{After, Inside}
 use Rattle.reader.specs.declared.reader.Reader.{Reader}
-use Rattle.reader.specs.View.{view, unwound, no_open, phase_of}
+use Rattle.reader.specs.View.{view, unwound, no_open}
 use Rattle.reader.proofs.Stack.{unwound_length, unwound_push, unwound_pop}
 
 -- after the innermost has its new child, a new entry makes the bracket open
@@ -21,8 +20,8 @@ pub open_after : (r r' : Reader) → r'.depth ≡ r.depth → view r' ≡ restac
     (record {
       to = record {
         phase = opened;
-        stack = unwound (r'.depth + 1) (set r'.stack r'.depth (record { row = zero_row; number = r'.nodes }));
-        nodes = r'.nodes + 1;
+        stack = unwound (r'.depth + 1) (set r'.stack r'.depth (record { row = zero_row; number = r.nodes }));
+        nodes = r.nodes + 1;
         bytes = r'.bytes;
         fault = r'.fault;
       };
@@ -30,26 +29,22 @@ pub open_after : (r r' : Reader) → r'.depth ≡ r.depth → view r' ≡ restac
     })
     (open_bracket (view r))
 open_after r r' ed ev few within =
-    let pushed : List scan.Open → Step = λ s. record { to = record { phase = opened; stack = s; nodes = r'.nodes + 1; bytes = r'.bytes; fault = r'.fault }; effect = quiet } in
-    let opens : Scan → Step = λ v. record { to = record { phase = opened; stack = record { row = zero_row; number = v.nodes } ∷ v.stack; nodes = v.nodes + 1; bytes = v.bytes; fault = v.fault }; effect = quiet } in
+    let opens : List scan.Open → Scan → Step = λ s v. record { to = record { phase = opened; stack = s; nodes = r.nodes + 1; bytes = v.bytes; fault = v.fault }; effect = quiet } in
+    let entry : scan.Open = record { row = zero_row; number = r.nodes } in
     let below : ltb (length (unwound r.depth r.stack)) 64 ≡ true = rw (unwound_length r.depth r.stack) (lt-ltb r.depth 64 few) in
-    ap pushed (unwound_push r'.depth r'.stack (record { row = zero_row; number = r'.nodes }) within)
-    ∙ (ap opens ev ∙ sym (cond-true (ltb (length (unwound r.depth r.stack)) 64) (opens (restacked (innermost with_child (view r).stack) (view r))) (scan.stuck (view r)) below))
+    ap (λ s. opens s (view r')) (unwound_push r'.depth r'.stack (record { row = zero_row; number = r.nodes }) within)
+    ∙ (ap (λ (v : Scan). opens (entry ∷ v.stack) v) ev ∙ sym (cond-true (ltb (length (unwound r.depth r.stack)) 64) _ (scan.stuck (view r)) below))
 
 -- the node of the innermost bracket is the last child so far of the bracket around it
-pub place_around : (d : ℕ) (s : List Open) → 2 ≤ d
-    → place_in (unwound (d - 1) s) ≡ Child (get_or s (d - 2) no_open).row.kind (get_or s (d - 2) no_open).row.flags ((get_or s (d - 2) no_open).row.children - 1)
-place_around d s h =
+pub place_around : (d : ℕ) (s : List Open) → d ≤ length s → 2 ≤ length (take d s)
+    → place_in (unwound (d - 1) s)
+    ≡ Child (get_or (take d s) (length (take d s) - 2) no_open).row.kind (get_or (take d s) (length (take d s) - 2) no_open).row.flags
+    ((get_or (take d s) (length (take d s) - 2) no_open).row.children - 1)
+place_around d s l h =
+    let n : length (take d s) ≡ d = omega (arith, length-take d s) in
     let e : d - 1 - 1 ≡ d - 2 = omega arith in
-    ap place_in (unwound_pop (d - 1) s (omega arith)) ∙ rw e refl
-
-pub phase_outside : (d : ℕ) (s : List Open) → d ≡ 0 → phase_of After ≡ phase_in (unwound d s)
-phase_outside zero s h = refl
-phase_outside (suc d) s h = absurd (omega arith)
-
-pub phase_inside : (d : ℕ) (s : List Open) → (d ≡ 0 → ⊥) → phase_of Inside ≡ phase_in (unwound d s)
-phase_inside zero s h = absurd (h refl)
-phase_inside (suc d) s h = refl
+    let g : get_or (take d s) (d - 2) no_open ≡ get_or s (d - 2) no_open = get_or-take d s (d - 2) no_open (omega arith) in
+    ap place_in (unwound_pop (d - 1) s (omega arith)) ∙ rw (e, n, g) refl
 
 -- a name has at most nine letters
 prefix_length : (w v : List ℕ) → prefix w v ≡ true → length w ≤ length v
@@ -85,15 +80,3 @@ begun_long w n b l h = go (begun (take n w ++ b ∷ [])) refl
         let s : length (take n w ++ b ∷ []) ≡ min n (length w) + 1 = length-append (take n w) (b ∷ []) ∙ ap (λ m. m + 1) (length-take n w) in
         absurd (omega arith)
     go false e = refl
-
--- the letters with one more
-pub letters_more : (l : List ℕ) (n b : ℕ) → n < length l → take (n + 1 - 0) (set l n b) ≡ take n l ++ b ∷ []
-letters_more l n b h = let e : n + 1 - 0 ≡ n + 1 = omega arith in rw e (take_more_set l n b h)
-
-pub letters_within : (l : List ℕ) (n m : ℕ) → length l ≡ 9 → m ≡ min n 9 → take (m - 0) l ≡ take n l
-letters_within l n m len e =
-    let z : m - 0 ≡ m = omega arith in
-    rw z (elim (cases_lt 9 n) [
-      | inl h ↦ (let q : length l ≤ m = omega arith in let p : length l ≤ n = omega arith in take_all m l q ∙ sym (take_all n l p))
-      | inr h ↦ (let p : m ≡ n = omega arith in rw p refl)
-    ])

@@ -1,6 +1,9 @@
 -- The stack of open brackets, as an array with a depth and as a list with the innermost first.
-use Rattle.std.proofs.Common.{◌≡◌, ℕ, zero, suc, ◌+◌, ◌-◌, ◌<◌, ◌≤◌, ◌≢◌, List, ◌∷◌, length, get_or, set, refl, ap, ◌∙◌, add-one, arith}
+use Rattle.std.proofs.Common.{◌≡◌, ℕ, zero, suc, ◌+◌, ◌-◌, ◌<◌, ◌≤◌, ◌≢◌, List, ◌∷◌, length, get_or, take, set, sym, refl, ap, ◌∙◌, add-one, arith, Bor, Some, None, Option, MatchOption, length-take, get_or-take}
 use Rattle.std.proofs.lemmas.List.{get_or-set_same, get_or-set_other}
+use Rattle.std.proofs.lemmas.Option.{none-some, slice_get-get_or, slice_get_within, get_or_from_slice_get}
+use Rattle.std.specs.List.{slice_get}
+use Rattle.std.specs.Option.{option_copied}
 use Rattle.grammar.specs.Scan as scan
 use Rattle.grammar.specs.Scan.{innermost}
 use Rattle.reader.specs.declared.open.Open.{Open}
@@ -40,3 +43,19 @@ changed_innermost f s (suc d) x h l e =
     let p : suc d - 1 ≡ d = omega arith in
     let e' : open_of x ≡ f (open_of (get_or s d no_open)) = rw p at e in
     rw p (unwound_top d s x (omega arith) ∙ ap (λ o. o ∷ unwound d s) e')
+
+-- the last of the entries below the depth is the innermost
+pub innermost_last : (d : ℕ) (s : List Open) (r : Option (Bor Open)) → d ≤ length s → option_copied r ≡ slice_get (take d s) (length (take d s) - 1)
+    → MatchOption r (d ≡ 0) (λ e. (0 < d) × (unwound d s ≡ open_of e.now ∷ unwound (d - 1) s))
+innermost_last zero s None h e = refl
+innermost_last (suc d) s None h e =
+    let n : length (take (suc d) s) ≡ suc d = omega (arith, length-take (suc d) s) in
+    let w : length (take (suc d) s) - 1 < length (take (suc d) s) = omega arith in
+    absurd (none-some _ (e ∙ slice_get-get_or (take (suc d) s) (length (take (suc d) s) - 1) no_open w))
+innermost_last d s (Some x) h e =
+    let w : length (take d s) - 1 < length (take d s) = slice_get_within (take d s) (length (take d s) - 1) x.now (sym e) in
+    let n : length (take d s) ≡ d = omega (arith, length-take d s) in
+    let p : 0 < d = omega arith in
+    let q : get_or (take d s) (length (take d s) - 1) no_open ≡ x.now = get_or_from_slice_get (take d s) (length (take d s) - 1) x.now no_open (sym e) in
+    let g : get_or s (d - 1) no_open ≡ x.now = sym (get_or-take d s (d - 1) no_open (omega arith)) ∙ (ap (λ k. get_or (take d s) (k - 1) no_open) (sym n) ∙ q) in
+    (p, unwound_pop d s p ∙ ap (λ o. open_of o ∷ unwound (d - 1) s) g)

@@ -1,4 +1,5 @@
--- What the reader's counters and digits leave room for: one more of each.
+-- What the reader's counters and digits leave room for: one more of each. No invariant of the reader, since
+-- each byte uses some of it up: the loop over the listing shows it anew from the bytes that are left.
 use Rattle.std.specs.Prelude.{◌+◌, ◌-◌, ◌^◌, ◌<◌, slice_index_or}
 use Rattle.grammar.specs.Scan.{grown}
 use Rattle.reader.specs.declared.open.State.{State}

@@ -1,12 +1,12 @@
-// The entries of the open brackets, changed in place.
-ghost use Rattle.std.specs.Prelude.{◌≡◌, ◌+◌, ◌-◌, ◌^◌, ◌<◌};
-ghost use Rattle.grammar.specs.Scan.{restacked, innermost, with_kind, with_start, with_flags, with_text, with_child, with_byte, grown, at_start};
-ghost use Rattle.reader.specs.View.{view, no_open};
-ghost use Rattle.reader.specs.Room.{Room};
+// The reader's fields, and its innermost entry.
+ghost use Rattle.std.specs.Prelude.{◌≡◌, ◌≢◌, ◌-◌, ◌^◌, ◌<◌, ◌∷◌, true, false, MatchOption};
+ghost use Rattle.grammar.specs.Scan.{after, grown, at_start};
+ghost use Rattle.reader.specs.View.{view, open_of, unwound};
+ghost use Rattle.reader.specs.Changes.{Changeable, Changed};
 
 use crate::open::{Open, State};
 use crate::reader::Reader;
-use pages::{CLEARED, Flags, Kind, LEVEL_LIMIT, Part};
+use pages::{CLEARED, LEVEL_LIMIT, Part, Row};
 
 impl Reader {
     // A reader before its first byte.
@@ -26,74 +26,47 @@ impl Reader {
         }
     }
 
-    pub(crate) fn set_kind(&mut self, kind: Kind)
-        ensures { view self.new ≡ restacked (innermost (with_kind kind) (view self.old).stack) (view self.old) }
+    // Whether the root's bracket has closed.
+    pub(crate) fn is_done(&self) -> bool
+        ensures { elim result [ true ↦ (view self.now).phase ≡ after | false ↦ ((view self.now).phase ≢ after) ] }
     {
-        if self.depth > 0 {
-            self.stack[self.depth - 1].row.kind = kind;
-        }
+        matches!(self.state, State::After)
     }
 
-    pub(crate) fn set_start(&mut self, start: u32)
-        ensures { view self.new ≡ restacked (innermost (with_start start) (view self.old).stack) (view self.old) }
+    // The innermost of the open brackets.
+    pub(crate) fn innermost(&self) -> Option<&Open>
+        ensures { MatchOption result (self.now.depth ≡ 0) (λ e. (0 < self.now.depth) × (unwound self.now.depth self.now.stack ≡ open_of e.now ∷ unwound (self.now.depth - 1) self.now.stack)) }
     {
-        if self.depth > 0 {
-            self.stack[self.depth - 1].row.start = start;
-        }
+        self.stack[..self.depth].last()
     }
 
-    pub(crate) fn set_flags(&mut self, flags: Flags)
-        ensures { view self.new ≡ restacked (innermost (with_flags flags) (view self.old).stack) (view self.old) }
-    {
-        if self.depth > 0 {
-            self.stack[self.depth - 1].row.flags = flags;
-        }
-    }
-
-    pub(crate) fn set_text(&mut self, part: Part)
-        ensures { view self.new ≡ restacked (innermost (with_text part) (view self.old).stack) (view self.old) }
-    {
-        if self.depth > 0 {
-            self.stack[self.depth - 1].row.text = Some(part);
-        }
-    }
-
-    // One child more for the innermost bracket.
-    pub(crate) fn add_child(&mut self)
-        requires { Room self.old }
+    // Changes the row of the innermost bracket in place; where none is open, nothing. By index: `last_mut` of
+    // a part of a field is not covered where the struct has a ghost field.
+    pub(crate) fn change<F: FnOnce(&mut Row)>(&mut self, f: F)
+        requires { Changeable F.FnOnce f self.old }
         ensures depth { self.new.depth ≡ self.old.depth }
-        ensures after { view self.new ≡ restacked (innermost with_child (view self.old).stack) (view self.old) }
+        ensures after { Changed F.FnOnce f self.old self.new }
     {
         if self.depth > 0 {
-            self.stack[self.depth - 1].row.children += 1;
-        }
-    }
-
-    // One byte more for the text of the innermost bracket.
-    pub(crate) fn grow_text(&mut self)
-        requires { Room self.old }
-        ensures { view self.new ≡ restacked (innermost with_byte (view self.old).stack) (view self.old) }
-    {
-        if self.depth > 0 {
-            let part = grown(self.stack[self.depth - 1].row.text);
-            self.stack[self.depth - 1].row.text = Some(part);
+            f(&mut self.stack[self.depth - 1].row);
         }
     }
 }
 
 // A text's part, longer by one byte.
-fn grown(text: Option<Part>) -> Part
+pub(crate) fn grown(text: Option<Part>) -> Part
     requires { (grown text).length < 2 ^ 64 }
     ensures { result ≡ grown text }
 {
-    match text {
-        Some(part) => Part {
-            offset: part.offset,
+    let first = Part {
+        offset: 0,
+        length: 1,
+    };
+    text.map_or(
+        first,
+        |part| Part {
             length: part.length + 1,
+            ..part
         },
-        None => Part {
-            offset: 0,
-            length: 1,
-        },
-    }
+    )
 }

@@ -1,15 +1,12 @@
 // Reads a page listing: one pass over any bytes, into rows and text that the caller lends.
 #![tactic(auto)]
 
-ghost use Rattle.std.specs.Prelude.{◌≡◌, ◌≤◌, true, false, ◌&&◌, length, IfOk, ◌≢◌, nat_le};
-ghost use Rattle.grammar.specs.Scan.{after};
+ghost use Rattle.std.specs.Prelude.{◌≤◌, length, IfOk};
 ghost use Rattle.reader.specs.Reads.{Reads, Finds};
-ghost use Rattle.reader.specs.View.{view};
+ghost use Rattle.reader.specs.View.{IsSame};
 
-use memory::clear;
-use open::State;
-use pages::{CLEARED, NODE_LIMIT, Refusal, Row, TEXT_LIMIT};
-use reader::Reader;
+use memory::Memory;
+use pages::{Refusal, Row};
 use scan::scan;
 
 mod entries;
@@ -21,38 +18,19 @@ mod steps;
 mod word;
 
 // How much of the lent memory a page takes: its first rows, and its first bytes.
-#[derive(Clone, Copy, PartialEq, Eq)]
+#[derive(Clone, Copy, Debug, PartialEq, Eq)]
 pub struct Size {
     pub nodes: usize,
     pub bytes: usize,
 }
 
-// Whether the root's bracket has closed.
-fn is_done(reader: &Reader) -> bool
-    ensures { elim result [ true ↦ (view reader.now).phase ≡ after | false ↦ ((view reader.now).phase ≢ after) ] }
+// Reads into the memory; a refusal leaves anything there, and borrows nothing from the listing.
+fn fill(listing: &[u8], memory: &mut Memory) -> Result<Size, Refusal<'static>>
+    ensures same { IsSame memory.old memory.new }
+    ensures finds { Finds listing.now memory.old.rows.now memory.old.text.now result memory.new.rows.now memory.new.text.now }
 {
-    match reader.state {
-        State::After => true,
-        _ => false,
-    }
-}
-
-// Whether a page has room in so many rows and bytes, and keeps the limits.
-fn fits(size: Size, rows: usize, text: usize) -> bool
-    ensures { result ≡ (nat_le size.nodes rows && (nat_le size.nodes 65536 && (nat_le size.bytes text && nat_le size.bytes 1048576))) }
-{
-    size.nodes <= rows && size.nodes <= NODE_LIMIT && size.bytes <= text && size.bytes <= TEXT_LIMIT
-}
-
-// Reads into the memory; a refusal leaves anything there.
-fn fill<'a>(listing: &'a [u8], rows: &mut [Row], text: &mut [u8]) -> Result<Size, Refusal<'a>>
-    ensures { Finds listing.now rows.old text.old result rows.new text.new }
-{
-    let reader = match scan(listing, rows, text) {
-        Err(place) => return Err(Refusal::Unread(place)),
-        Ok(reader) => reader,
-    };
-    if !is_done(&reader) {
+    let reader = scan(listing, memory).map_err(|place| Refusal::Unread(place))?;
+    if !reader.is_done() {
         return Err(Refusal::Unread(listing.len()));
     }
     if let Some(node) = reader.fault {
@@ -62,7 +40,7 @@ fn fill<'a>(listing: &'a [u8], rows: &mut [Row], text: &mut [u8]) -> Result<Size
         nodes: reader.nodes,
         bytes: reader.bytes,
     };
-    if fits(size, rows.len(), text.len()) {
+    if memory.fits(size) {
         Ok(size)
     } else {
         Err(Refusal::Overfull)
@@ -74,12 +52,11 @@ pub fn read<'a>(listing: &'a [u8], rows: &mut [Row], text: &mut [u8]) -> Result<
     ensures reads { Reads listing.now rows.old text.old result rows.new text.new }
     ensures within { IfOk result (λ size. (size.nodes ≤ length rows.old) × (size.bytes ≤ length text.old)) }
 {
-    match fill(listing, rows, text) {
-        Ok(size) => Ok(size),
-        Err(refusal) => {
-            clear(rows, CLEARED);
-            clear(text, 0);
-            Err(refusal)
-        }
+    let mut memory = Memory { rows, text };
+    // Not by `inspect_err`: what its closure borrowed is not known again where it was not called.
+    let found = fill(listing, &mut memory);
+    if found.is_err() {
+        memory.clear();
     }
+    found
 }

@@ -1,23 +1,9 @@
 // What the reader waits for, and what it keeps of each open bracket.
+use crate::word::Word;
 use pages::Row;
 
-// The longest name of a kind has nine letters.
-pub const LONGEST: usize = 9;
-
-// The letters of a kind's name so far.
-#[derive(Clone, Copy)]
-pub struct Word {
-    pub letters: [u8; LONGEST],
-    pub len: usize,
-}
-
-pub const NO_LETTERS: Word = Word {
-    letters: [0; LONGEST],
-    len: 0,
-};
-
 // What the reader waits for.
-#[derive(Clone, Copy)]
+#[derive(Clone, Copy, Debug)]
 pub enum State {
     // the root's bracket
     Before,
@@ -50,20 +36,22 @@ pub enum State {
 }
 
 // An open bracket: its row so far, and its node's number.
-#[derive(Clone, Copy)]
+#[derive(Clone, Copy, Debug)]
 pub struct Open {
     pub row: Row,
     pub number: usize,
 }
 
 // What a byte adds to the page.
-#[derive(Clone, Copy)]
+#[derive(Clone, Copy, Debug)]
 pub enum Effect {
     Quiet,
-    // a text byte at a place
-    Text(usize, u8),
-    // the row of a node
-    Done(usize, Row),
-    // no listing goes on with the byte
-    Unread,
+    // a text byte, and its place
+    Text(u8, usize),
+    // the row of a node, with its number
+    Done(Open),
 }
+
+// No listing goes on with the byte.
+#[derive(Clone, Copy, Debug, PartialEq, Eq)]
+pub struct Unread;

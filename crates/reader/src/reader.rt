@@ -5,7 +5,8 @@ use crate::open::{Open, State};
 use pages::LEVEL_LIMIT;
 
 // What it waits for, an entry for each open bracket, how many nodes and text bytes it has read, and the
-// lowest node that it found misshapen.
+// lowest node that it found misshapen. The entries are an array and a depth, since a library crate uses no
+// heap.
 #[derive(Drop)]
 pub struct Reader {
     pub state: State,

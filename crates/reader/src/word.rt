@@ -1,6 +1,6 @@
 // The letters of a kind's name, as they come in.
-ghost use Rattle.std.specs.Prelude.{◌≡◌};
-ghost use Rattle.grammar.specs.Scan.{prefix, same, some_begins, begun, first_named, kind_named};
+ghost use Rattle.std.specs.Prelude.{◌≡◌, ◌≤◌, true, false, [], ◌∷◌, ◌++◌, MatchOption};
+ghost use Rattle.grammar.specs.Scan.{begun, kind_named};
 
 use grammar::kind_name;
 use pages::Kind;
@@ -34,59 +34,66 @@ const KINDS: [Kind; 25] = [
     Kind::Bare,
 ];
 
-// Whether a name begins with these letters.
-fn begins(name: &[u8], letters: &[u8]) -> bool
-    ensures { result ≡ prefix letters.now name.now }
-{
-    for (i, b) in letters.iter().enumerate() {
-        if i >= name.len() || name[i] != *b {
-            return false;
+// The longest name of a kind has nine letters.
+const LONGEST: usize = 9;
+
+// The letters of a kind's name so far: an array and a length, since a state is copied and no heap is used.
+#[derive(Clone, Copy, Debug)]
+pub struct Word {
+    letters: [u8; LONGEST],
+    len: usize,
+    ghost fits: { len ≤ 9 },
+}
+
+impl Word {
+    ghost use Rattle.reader.specs.View.{letters_of};
+
+    // No letters.
+    pub(crate) fn new() -> Word
+        ensures { letters_of result ≡ [] }
+    {
+        Word {
+            letters: [0; LONGEST],
+            len: 0,
         }
     }
-    true
-}
 
-// Whether the name of one of these kinds begins with these letters.
-fn some_begins(kinds: &[Kind], letters: &[u8]) -> bool
-    ensures { result ≡ some_begins kinds.now letters.now }
-{
-    for kind in kinds {
-        if begins(kind_name(*kind), letters) {
-            return true;
-        }
+    fn letters(&self) -> &[u8]
+        ensures { result.now ≡ letters_of self.now }
+    {
+        &self.letters[..self.len]
     }
-    false
-}
 
-// Whether some kind's name begins with these letters.
-pub(crate) fn begins_name(letters: &[u8]) -> bool
-    ensures { result ≡ begun letters.now }
-{
-    some_begins(&KINDS, letters)
-}
-
-// Whether the letters are the name.
-fn is_name(name: &[u8], letters: &[u8]) -> bool
-    ensures { result ≡ same letters.now name.now }
-{
-    name.len() == letters.len() && begins(name, letters)
-}
-
-// The first of these kinds whose name the letters are.
-fn first_named(kinds: &[Kind], letters: &[u8]) -> Option<Kind>
-    ensures { result ≡ first_named kinds.now letters.now }
-{
-    for kind in kinds {
-        if is_name(kind_name(*kind), letters) {
-            return Some(*kind);
-        }
+    // Whether some kind's name begins with the letters.
+    fn begins_name(&self) -> bool
+        ensures { result ≡ begun (letters_of self.now) }
+    {
+        let letters = self.letters();
+        KINDS
+            .iter()
+            .any(|kind| kind_name(*kind).starts_with(letters))
     }
-    None
-}
 
-// The kind whose name the letters are.
-pub(crate) fn named(letters: &[u8]) -> Option<Kind>
-    ensures { result ≡ kind_named letters.now }
-{
-    first_named(&KINDS, letters)
+    // The letters and one more, if some kind's name begins with them.
+    pub(crate) fn with(mut self, b: u8) -> Option<Word>
+        ensures { MatchOption result (begun (letters_of self ++ b ∷ []) ≡ false) (λ word. (begun (letters_of self ++ b ∷ []) ≡ true) × (letters_of word ≡ letters_of self ++ b ∷ [])) }
+    {
+        if self.len >= LONGEST {
+            return None;
+        }
+        self.letters[self.len] = b;
+        self.len += 1;
+        self.begins_name().then_some(self)
+    }
+
+    // The kind whose name the letters are. No `TryFrom`, whose error would say no more than `None`.
+    pub(crate) fn kind(&self) -> Option<Kind>
+        ensures { result ≡ kind_named (letters_of self.now) }
+    {
+        let letters = self.letters();
+        KINDS
+            .iter()
+            .copied()
+            .find(|kind| letters == kind_name(*kind))
+    }
 }

@@ -1,123 +1,100 @@
-// What the command line gives: options are taken one after the other, each with the words that follow it.
+// What the command line gives: options are taken one after the other, each with the words that it wants.
+ghost use Rattle.std.specs.Prelude.{◌<◌, ◌≤◌, IfOk, OnOk, IsSome};
+ghost use Rattle.std.specs.Vec.Iter.{into_iter_len};
+
 use crate::print::refused;
 use anyhow::anyhow;
 use options::{ManglePropertyCache, Places, ReservedWords};
 use pages::Refusal;
-use std::alloc::{AllocError, Global};
+use std::env::Args;
 
-// What the next word of the command line is.
+// Why the words are not taken to their end.
 #[derive(Drop)]
-pub enum Wanted {
-    Option,
-    PinnedName,
-    Target(String),
-    KeptName,
-    ReservedName,
-    Place,
-    Take,
-    Leave,
+pub enum Stop {
+    // the next of them is `--help`
+    Help,
+    // an error that ends the program
+    Failed(anyhow::Error),
 }
 
-// The patterns of the names that are to be shortened: those that match `take` and do not match `leave`.
+impl From<anyhow::Error> for Stop {
+    fn from(error: anyhow::Error) -> Stop {
+        Stop::Failed(error)
+    }
+}
+
 #[derive(Drop)]
-pub struct Chosen {
+pub struct Given<'a> {
+    pub cache: ManglePropertyCache<'a>,
+    pub reserved: ReservedWords<'a>,
+    pub places: Places<'a>,
+    // the names that are to be shortened: those that match `take` and do not match `leave`
     pub take: String,
     pub leave: Option<String>,
 }
 
-// Every name.
-pub fn all_chosen(heap: Global) -> Result<Chosen, AllocError> {
-    Ok(Chosen {
-        take: String::from_str(heap, "*")?,
-        leave: None,
-    })
+// Tells which word is unknown or misplaced; the error ends the program with status 1.
+fn unknown(rt: &impl Eprint, word: &str) -> anyhow::Error {
+    let told = eprintln!(rt;
+        "shorten: unknown or misplaced argument; shorten --help tells what there is\n{word}"
+    );
+    told.map_or_else(anyhow::Error::from, |()| anyhow!("unknown argument"))
 }
 
-fn unknown(rt: &HostRuntime, word: &str) -> anyhow::Result<Wanted> {
-    rt.eprintln("shorten: unknown or misplaced argument; shorten --help tells what there is")?;
-    rt.eprintln(word)?;
-    Err(anyhow!("unknown argument"))
-}
-
-fn option(rt: &HostRuntime, word: &str) -> anyhow::Result<Wanted> {
-    match word {
-        "--pin" => Ok(Wanted::PinnedName),
-        "--keep" => Ok(Wanted::KeptName),
-        "--reserve" => Ok(Wanted::ReservedName),
-        "--place" => Ok(Wanted::Place),
-        "--take" => Ok(Wanted::Take),
-        "--leave" => Ok(Wanted::Leave),
-        _ => unknown(rt, word),
+// The next word, where there is one.
+pub fn next_word(words: &mut Args) -> Result<Option<String>, Stop>
+    ensures { IfOk result (λ word. IsSome word → into_iter_len words.new < into_iter_len words.old) }
+{
+    match words.next() {
+        Some(word) if word.as_str() == "--help" => Err(Stop::Help),
+        word => Ok(word),
     }
 }
 
-// What comes after a word that was given, or why it was refused.
-fn given(rt: &HostRuntime, answer: Result<(), Refusal>) -> anyhow::Result<Wanted> {
-    match answer {
-        Ok(()) => Ok(Wanted::Option),
-        Err(refusal) => {
-            refused(rt, refusal)?;
-            Ok(Wanted::Option)
+// The word that an option wants.
+fn wanted(rt: &impl Eprint, words: &mut Args) -> Result<String, Stop>
+    ensures { OnOk result (into_iter_len words.new ≤ into_iter_len words.old) }
+{
+    let word = next_word(words)?;
+    Ok(word.ok_or_else(|| unknown(rt, "(the end of the arguments)"))?)
+}
+
+impl Given<'_> {
+    // Takes an option, and the words that it wants.
+    pub fn take(
+        &mut self,
+        rt: &(impl Print + Eprint),
+        option: &str,
+        words: &mut Args,
+    ) -> Result<(), Stop>
+        ensures { OnOk result (into_iter_len words.new ≤ into_iter_len words.old) }
+    {
+        let told = |refusal: Refusal| refused(rt, refusal);
+        match option {
+            "--pin" => {
+                let name = wanted(rt, words)?;
+                let target = wanted(rt, words)?;
+                self.cache
+                    .pin(name.as_bytes(), target.as_bytes())
+                    .map_err(told)?;
+            }
+            "--keep" => {
+                let name = wanted(rt, words)?;
+                self.cache.keep(name.as_bytes()).map_err(told)?;
+            }
+            "--reserve" => {
+                let name = wanted(rt, words)?;
+                self.reserved.reserve(name.as_bytes()).map_err(told)?;
+            }
+            "--place" => {
+                let word = wanted(rt, words)?;
+                let start = word.parse::<u32>().map_err(|_| unknown(rt, word.as_str()))?;
+                self.places.add(start).map_err(told)?;
+            }
+            "--take" => self.take = wanted(rt, words)?,
+            "--leave" => self.leave = Some(wanted(rt, words)?),
+            _ => Err(unknown(rt, option))?,
         }
-    }
-}
-
-fn place(rt: &HostRuntime, places: &mut Places, word: &str) -> anyhow::Result<Wanted> {
-    match word.parse::<u32>() {
-        Ok(start) => given(rt, places.add(start)),
-        Err(_) => unknown(rt, word),
-    }
-}
-
-fn pin<'w>(
-    rt: &HostRuntime,
-    cache: &mut ManglePropertyCache,
-    name: &'w str,
-    target: &'w str,
-) -> anyhow::Result<Wanted> {
-    given(rt, cache.pin(name.as_bytes(), target.as_bytes()))
-}
-
-fn take(heap: Global, chosen: &mut Chosen, word: &str) -> anyhow::Result<Wanted> {
-    chosen.take = String::from_str(heap, word)?;
-    Ok(Wanted::Option)
-}
-
-fn leave(heap: Global, chosen: &mut Chosen, word: &str) -> anyhow::Result<Wanted> {
-    chosen.leave = Some(String::from_str(heap, word)?);
-    Ok(Wanted::Option)
-}
-
-// Takes one word more.
-pub fn take_word(
-    rt: &HostRuntime,
-    heap: Global,
-    wanted: Wanted,
-    cache: &mut ManglePropertyCache,
-    words: &mut ReservedWords,
-    places: &mut Places,
-    chosen: &mut Chosen,
-    word: &str,
-) -> anyhow::Result<Wanted> {
-    match wanted {
-        Wanted::Option => option(rt, word),
-        Wanted::PinnedName => Ok(Wanted::Target(String::from_str(heap, word)?)),
-        Wanted::Target(name) => pin(rt, cache, name.as_str(), word),
-        Wanted::KeptName => given(rt, cache.keep(word.as_bytes())),
-        Wanted::ReservedName => given(rt, words.reserve(word.as_bytes())),
-        Wanted::Place => place(rt, places, word),
-        Wanted::Take => take(heap, chosen, word),
-        Wanted::Leave => leave(heap, chosen, word),
-    }
-}
-
-// No option may lack the words that it wants.
-pub fn complete(rt: &HostRuntime, wanted: Wanted) -> anyhow::Result<()> {
-    match wanted {
-        Wanted::Option => Ok(()),
-        _ => {
-            unknown(rt, "(the end of the arguments)")?;
-            Ok(())
-        }
+        Ok(())
     }
 }

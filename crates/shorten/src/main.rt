@@ -5,17 +5,16 @@
 mod given;
 mod print;
 
-use given::{Chosen, Wanted, all_chosen, complete, take_word};
+use given::{Given, Stop, next_word};
 use matchers::{Matcher, Pattern, Without};
-use names::Name;
 use options::{CACHE_LIMIT, ManglePropertyCache, PLACE_LIMIT, Places, ReservedWords, WORD_LIMIT};
-use pages::{CLEARED, NODE_LIMIT, TEXT_LIMIT};
+use pages::{NODE_LIMIT, Nodes, Row, TEXT_LIMIT};
 use print::{print_cache, print_page, refused};
 use reader::{Size, read};
-use std::alloc::Global;
 use std::env;
+use std::env::Args;
 use std::io::Read;
-use table::{Entry, Table};
+use table::Entry;
 
 const HELP: &str =
     "shorten: reads a page listing from standard input, checks it, and prints it in the form of the writer.
@@ -36,120 +35,73 @@ Refusals: 1 misshapen (the node), 2 deep (the node), 3 unread (the byte), 4 long
 docs/RULES.md says what a listing is, and when each refusal comes.
 ";
 
-// Reads the page, and prints the cache and then the page; of a refused page only the refusal.
+// Reads the page, and prints the cache and then the page; of a refused page only the refusal. By a match, since after
+// `?` a proof loses that the page lies within the memory.
 // No name is shortened yet, so what the matcher means changes nothing.
 fn page<M: Matcher>(
-    rt: &HostRuntime,
-    heap: Global,
+    rt: &(impl Input + Print + AllocGlobal),
     cache: &ManglePropertyCache,
     _matcher: &M,
 ) -> anyhow::Result<()> {
+    let heap = rt.alloc();
     let mut listing = Vec::new(heap);
-    rt.stdin().read_to_end(&mut listing)?;
-    let mut rows = vec![in heap; CLEARED; NODE_LIMIT]?;
+    rt.reader().read_to_end(&mut listing)?;
+    let mut rows = vec![in heap; Row::default(); NODE_LIMIT]?;
     let mut text = vec![in heap; 0u8; TEXT_LIMIT]?;
-    match read(listing.as_slice(), rows.as_mut_slice(), text.as_mut_slice()) {
-        Err(refusal) => refused(rt, refusal),
+    match read(&listing, &mut rows, &mut text) {
+        Err(refusal) => Err(refused(rt, refusal)),
         Ok(Size { nodes, bytes }) => {
-            print_cache(rt, heap, cache)?;
+            print_cache(rt, cache)?;
             print_page(
                 rt,
-                heap,
-                &rows.as_slice()[0..nodes],
-                &text.as_slice()[0..bytes],
+                Nodes {
+                    rows: &rows[..nodes],
+                    text: &text[..bytes],
+                },
             )
         }
     }
 }
 
-// What is left out, where the command line says so.
-fn left_out(chosen: &Chosen) -> Option<Pattern> {
-    match &chosen.leave {
-        Some(pattern) => Some(Pattern {
-            bytes: pattern.as_bytes(),
-        }),
-        None => None,
-    }
-}
-
 // Handles the page with the matcher that the patterns make.
-fn chosen_page(
-    rt: &HostRuntime,
-    heap: Global,
-    cache: &ManglePropertyCache,
-    chosen: &Chosen,
-) -> anyhow::Result<()> {
+fn chosen_page(rt: &(impl Input + Print + AllocGlobal), given: &Given) -> anyhow::Result<()> {
     let matcher = Without {
         include: Pattern {
-            bytes: chosen.take.as_bytes(),
+            bytes: given.take.as_bytes(),
         },
-        exclude: left_out(chosen),
+        exclude: given.leave.as_ref().map(|pattern| Pattern {
+            bytes: pattern.as_bytes(),
+        }),
     };
-    page(rt, heap, cache, &matcher)
+    page(rt, &given.cache, &matcher)
 }
 
-fn help(rt: &HostRuntime) -> anyhow::Result<()> {
-    rt.print(HELP)?;
+// Takes the words of the command line to their end.
+fn take_all(rt: &(impl Print + Eprint), given: &mut Given, mut words: Args) -> Result<(), Stop> {
+    while let Some(option) = next_word(&mut words)? {
+        given.take(rt, option.as_str(), &mut words)?;
+    }
     Ok(())
 }
 
-// Takes the words of the command line, and then the page.
-fn run(rt: &HostRuntime) -> anyhow::Result<()> {
-    let heap = rt.alloc();
-    let Some(nameless) = Name::new(b"") else {
-        return Ok(());
-    };
-    let mut pins = vec![in heap; Entry {
-        key: nameless,
-        value: None
-    }; CACHE_LIMIT]?;
-    let mut words = vec![in heap; Entry {
-        key: nameless,
-        value: ()
-    }; WORD_LIMIT]?;
-    let mut starts = vec![in heap; Entry {
-        key: 0u32,
-        value: ()
-    }; PLACE_LIMIT]?;
-    let mut cache = ManglePropertyCache {
-        table: Table {
-            entries: pins.as_mut_slice(),
-            len: 0,
-        },
-    };
-    let mut reserved = ReservedWords {
-        table: Table {
-            entries: words.as_mut_slice(),
-            len: 0,
-        },
-    };
-    let mut places = Places {
-        table: Table {
-            entries: starts.as_mut_slice(),
-            len: 0,
-        },
-    };
-    let mut chosen = all_chosen(heap)?;
-    let mut wanted = Wanted::Option;
-    for word in env::args(rt)?.skip(1) {
-        if word.as_str() == "--help" {
-            return help(rt);
-        }
-        wanted = take_word(
-            rt,
-            heap,
-            wanted,
-            &mut cache,
-            &mut reserved,
-            &mut places,
-            &mut chosen,
-            word.as_str(),
-        )?;
-    }
-    complete(rt, wanted)?;
-    chosen_page(rt, heap, &cache, &chosen)
-}
-
+// Takes the words of the command line, of which the first is the program's name, and then the page.
 fn main(rt: HostRuntime) -> anyhow::Result<()> {
-    run(&rt)
+    let heap = rt.alloc();
+    let mut pins = vec![in heap; Entry::default(); CACHE_LIMIT]?;
+    let mut words = vec![in heap; Entry::default(); WORD_LIMIT]?;
+    let mut starts = vec![in heap; Entry::default(); PLACE_LIMIT]?;
+    let mut given = Given {
+        cache: ManglePropertyCache::new(&mut pins),
+        reserved: ReservedWords::new(&mut words),
+        places: Places::new(&mut starts),
+        take: String::from_str(heap, "*")?,
+        leave: None,
+    };
+    let mut args = env::args(&rt)?;
+    args.next();
+    match take_all(&rt, &mut given, args) {
+        Ok(()) => chosen_page(&rt, &given),
+        Err(Stop::Help) => Ok(rt.print(HELP)?),
+        Err(Stop::Failed(error)) => Err(error),
+    }
 }

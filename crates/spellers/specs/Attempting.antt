@@ -6,22 +6,16 @@ use Rattle.std.proofs.Math.Logic.{inl, inr}
 use native.Mathlib.Omega.{arith}
 use Rattle.std.specs.List.{slice_get, range_with_len, filter}
 use Rattle.std.proofs.lemmas.List.FromFn.{length-map-range_with_len}
-use Rattle.std.proofs.lemmas.Option.{slice_get_past}
+use Rattle.std.proofs.lemmas.Option.{slice_get_past, slice_get_within}
 use Rattle.std.proofs.lemmas.List.Filters.{length-filter_both}
 use Rattle.std.proofs.lemmas.Bool.{cases_lt, le-leb, lt-leb}
 use Rattle.names.specs.Identifiers.{identifier}
 use Rattle.spellers.specs.Attempts.{attempts}
 use Rattle.spellers.specs.Lawful.{Lawful}
 
-pub inside_from_nth : {X : Type 0} (xs : List X) (n : ℕ) (x : X) → slice_get xs n ≡ Some x → n < length xs
-inside_from_nth xs n x e = elim (cases_lt n (length xs)) [
-  | inl lt ↦ lt
-  | inr ge ↦ let none = slice_get_past xs n ge in absurd (let z : ◌≡◌ {A = ℕ} 0 1 = cc in omega arith)
-]
-
-pub past_from_nth : {X : Type 0} (xs : List X) (n : ℕ) → slice_get xs n ≡ None → length xs ≤ n
+past_from_nth : {X : Type 0} (xs : List X) (n : ℕ) → slice_get xs n ≡ None → length xs ≤ n
 past_from_nth [] n e = omega arith
-past_from_nth (x ∷ xs) zero e = absurd (let z : ◌≡◌ {A = ℕ} 0 1 = cc in omega arith)
+past_from_nth (x ∷ xs) zero e = absurd (cc)
 past_from_nth (x ∷ xs) (suc n) e = let ih = past_from_nth xs n e in omega arith
 
 module _ (rule : ℕ → List ℕ) (longest top : ℕ) (sooner : (j : ℕ) → j + 1 < top → length (rule (j + 1)) ≤ longest → length (rule j) ≤ longest) where
@@ -94,9 +88,9 @@ module _ (rule : ℕ → List ℕ) (longest : ℕ) (sooner : (j : ℕ) → j + 1
 
   from_rule : (n : ℕ) (s : List ℕ) → slice_get (attempts rule longest) n ≡ Some s → From n s
   from_rule n s e = elim (cases_lt n 65536) [
-    | inr past ↦ let none = attempt_past n past in absurd (let z : ◌≡◌ {A = ℕ} 0 1 = cc in omega arith)
+    | inr past ↦ let none = attempt_past n past in absurd (cc)
     | inl lt ↦ elim (cases_lt longest (length (rule n))) [
-      | inl long ↦ let none = attempt_too_long n lt long in absurd (let z : ◌≡◌ {A = ℕ} 0 1 = cc in omega arith)
+      | inl long ↦ let none = attempt_too_long n lt long in absurd (cc)
       | inr fits ↦ let some = attempt_fits n lt fits in
           let same : s ≡ rule n = cc in
           record { within = lt; fits = subst (λ t. length t ≤ longest) (sym same) fits; ruled = same }
@@ -118,4 +112,4 @@ module _ (rule : ℕ → List ℕ) (longest : ℕ) (sooner : (j : ℕ) → j + 1
 
   -- and not before one that fits
   pub attempts_go_on : (n : ℕ) → n < 65536 → length (rule n) ≤ longest → n < length (attempts rule longest)
-  attempts_go_on n h f = inside_from_nth (attempts rule longest) n (rule n) (attempt_fits n h f)
+  attempts_go_on n h f = slice_get_within (attempts rule longest) n (rule n) (attempt_fits n h f)

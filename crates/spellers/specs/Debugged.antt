@@ -5,7 +5,7 @@ use Rattle.std.proofs.Common.{sym, ap, subst, ◌∙◌, inl, inr, arith}
 use Rattle.std.proofs.Math.ListN.{length-append}
 use Rattle.std.proofs.lemmas.Fmt.{decimal_by_steps, decimal_digit, decimal_nonempty, decimal_step, decimal_injective}
 use Rattle.std.proofs.lemmas.List.{append_cancel_left, append_cancel_right}
-use Rattle.std.proofs.lemmas.Bool.{and_from, and_parts, cases_Bool, cases_lt, cond-false, cond-true, or_left}
+use Rattle.std.proofs.lemmas.Bool.{agree_below_at, and_from, and_parts, cases_Bool, cases_lt, cond-false, cond-true, or_left}
 use Rattle.std.specs.List.{slice_get}
 use Rattle.names.specs.Names.{made_of}
 use Rattle.names.proofs.Filling.{too_long_for_a_name}
@@ -14,7 +14,6 @@ use Rattle.spellers.specs.Attempts.{attempts}
 use Rattle.spellers.specs.Debugging.{attempt_mark, debug_name, told, DebugEdges}
 use Rattle.spellers.specs.Lawful.{Lawful, as_name}
 use Rattle.spellers.specs.Attempting.{attempt_fits, attempt_past, attempt_too_long, attempts_end, attempts_go_on, lawful_attempts}
-use Rattle.spellers.specs.Testing.{holds_below}
 
 -- a larger number has no fewer digits
 longer : (k m n : ℕ) → n ≤ k → m ≤ n → n < 2 ^ 64 → length (decimal m) ≤ length (decimal n)
@@ -32,7 +31,7 @@ go_on_append (x ∷ xs) ys p q =
 
 digit_goes_on : (d : ℕ) → d < 10 → goes_on (48 + d) ≡ true
 unfolding goes_on starts digit
-digit_goes_on d h = holds_below (λ k. goes_on (48 + k)) 10 d refl h
+digit_goes_on d h = agree_below_at (λ k. goes_on (48 + k)) (λ _. true) 10 d refl h
 
 decimal_goes_on : (n : ℕ) → n < 2 ^ 64 → all_go_on (decimal n) ≡ true
 decimal_goes_on =
@@ -43,7 +42,7 @@ decimal_goes_on =
 -- an identifier name goes on from its first byte
 identifier_goes_on : (s : List ℕ) → identifier s ≡ true → all_go_on s ≡ true
 unfolding goes_on
-identifier_goes_on [] h = absurd (let z : ◌≡◌ {A = ℕ} 0 1 = cc in omega arith)
+identifier_goes_on [] h = absurd (cc)
 identifier_goes_on (b ∷ bs) h =
     and_from (goes_on b) (all_go_on bs) (or_left (starts b) (digit b) (and_parts (starts b) (all_go_on bs) h).0) (and_parts (starts b) (all_go_on bs) h).1
 
@@ -59,8 +58,8 @@ mark_longer (suc n) (suc m) e h = omega (arith, longer (suc m) (suc n) (suc m) (
 
 mark_apart : (m n : ℕ) → m < 65536 → n < 65536 → attempt_mark m ≡ attempt_mark n → m ≡ n
 mark_apart zero zero h k e = refl
-mark_apart zero (suc n) h k e = absurd (let z : ◌≡◌ {A = ℕ} 0 1 = cc in omega arith)
-mark_apart (suc m) zero h k e = absurd (let z : ◌≡◌ {A = ℕ} 0 1 = cc in omega arith)
+mark_apart zero (suc n) h k e = absurd (cc)
+mark_apart (suc m) zero h k e = absurd (cc)
 mark_apart (suc m) (suc n) h k e = decimal_injective (suc m) (suc n) (omega arith) (omega arith) (let d : decimal (suc m) ≡ decimal (suc n) = cc in d)
 
 property_goes_on : all_go_on (codes "property") ≡ true

@@ -1,10 +1,9 @@
 -- Letters tell digits apart, and spell identifier names.
 use Rattle.std.specs.Prelude.{◌≡◌, ℕ, suc, ◌<◌, true, cond, List, [], ◌∷◌, map, ◌==◌, nat_eq, refl}
 use Rattle.std.proofs.Common.{sym, ap, ◌∙◌}
-use Rattle.std.proofs.lemmas.Bool.{eqb-true}
+use Rattle.std.proofs.lemmas.Bool.{agree_below_at, eqb-true}
 use Rattle.names.specs.Identifiers.{starts, digit, goes_on, all_go_on}
 use Rattle.spellers.specs.Numbering.{alphabet, letter, AllBelow}
-use Rattle.spellers.specs.Testing.{holds_below}
 
 -- where a byte first stands in a list
 abbrev place_of : ℕ → List ℕ → ℕ
@@ -17,15 +16,15 @@ digit_of b = place_of b alphabet
 
 digit_of_letter : (d : ℕ) → d < 64 → digit_of (letter d) ≡ d
 unfolding letter
-digit_of_letter d h = eqb-true (digit_of (letter d)) d (holds_below (λ k. nat_eq (digit_of (letter k)) k) 64 d refl h)
+digit_of_letter d h = eqb-true (digit_of (letter d)) d (agree_below_at (λ k. nat_eq (digit_of (letter k)) k) (λ _. true) 64 d refl h)
 
 pub letter_starts : (d : ℕ) → d < 54 → starts (letter d) ≡ true
 unfolding letter starts
-letter_starts d h = holds_below (λ k. starts (letter k)) 54 d refl h
+letter_starts d h = agree_below_at (λ k. starts (letter k)) (λ _. true) 54 d refl h
 
 letter_goes_on : (d : ℕ) → d < 64 → goes_on (letter d) ≡ true
 unfolding letter goes_on starts digit
-letter_goes_on d h = holds_below (λ k. goes_on (letter k)) 64 d refl h
+letter_goes_on d h = agree_below_at (λ k. goes_on (letter k)) (λ _. true) 64 d refl h
 
 pub letters_go_on : (ds : List ℕ) → AllBelow 64 ds → all_go_on (map letter ds) ≡ true
 letters_go_on [] h = refl

@@ -4,7 +4,6 @@ pub mod Lawful
 pub mod Numbering
 pub mod Debugged
 pub mod Attempting
-pub mod Testing
 pub mod Shortening
 pub mod Digits
 pub mod Lettering

@@ -1,5 +1,5 @@
 -- The laws of short spellings.
-use Rattle.std.specs.Prelude.{◌≡◌, ℕ, zero, suc, ◌+◌, ◌-◌, ◌/◌, ◌%◌, ◌<◌, ◌≤◌, true, List, [], ◌∷◌, map, length, take, replicate, None}
+use Rattle.std.specs.Prelude.{◌≡◌, ℕ, zero, suc, ◌+◌, ◌-◌, ◌/◌, ◌<◌, ◌≤◌, true, List, [], ◌∷◌, map, length, take, replicate, None}
 use Rattle.std.proofs.Math.Path.{refl}
 use Rattle.std.proofs.Common.{arith}
 use Rattle.names.specs.Identifiers.{identifier}
@@ -65,20 +65,6 @@ short_lawful = lawful_attempts short 3 short_sooner (λ m n _ _ e. short_apart m
 
 pub short_full : length (attempts short 3) ≡ 65536
 short_full = omega (arith, few_attempts short 3 short_sooner, attempts_go_on short 3 short_sooner 65535 (omega arith) (short_fits 65535 (omega arith)))
-
--- the bytes of a spelling, by its shape
-module _ (n a b d : ℕ) where
-  pub bytes_of_one : n / 54 ≡ 0 → a ≡ letter (n % 54) → record { bytes = a ∷ (0 ∷ (0 ∷ [])); len = 1 } ≡ three_bytes (short n)
-  unfolding short
-  bytes_of_one e p = rw (one_digit n e, p) refl
-
-  pub bytes_of_two : (left : ℕ) → n / 54 ≡ suc left → left / 64 ≡ 0 → a ≡ letter (n % 54) → b ≡ letter (left % 64) → record { bytes = a ∷ (b ∷ (0 ∷ [])); len = 2 } ≡ three_bytes (short n)
-  unfolding short
-  bytes_of_two left e f p q = rw (two_digits n left e f, p, q) refl
-
-  pub bytes_of_three : (left rest : ℕ) → n < 65536 → n / 54 ≡ suc left → left / 64 ≡ suc rest → a ≡ letter (n % 54) → b ≡ letter (left % 64) → d ≡ letter (rest % 64) → record { bytes = a ∷ (b ∷ (d ∷ [])); len = 3 } ≡ three_bytes (short n)
-  unfolding short
-  bytes_of_three left rest h e f p q r = rw (three_digits n left rest e f (omega arith), p, q, r) refl
 
 -- what was promised of all short spellings
 pub written_once : WrittenOnce

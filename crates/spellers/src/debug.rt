@@ -1,4 +1,5 @@
-// Debug spellings: the original name can be read in them.
+// Debug spellings: the original name can be read in them. Original and attempt go side by side, as the Rust's own
+// `debug_name` takes them.
 ghost use Rattle.std.specs.Prelude.{◌≡◌, ℕ, List, ◌++◌, codes, decimal};
 ghost use Rattle.std.specs.List.{slice_get};
 ghost use Rattle.names.specs.Names.{bytes_of, made_of};
@@ -15,49 +16,32 @@ use names::{Name, is_identifier_name};
 fn numbered(name: Name, n: u16) -> Option<Name>
     ensures { result ≡ made_of (bytes_of name ++ decimal n) }
 {
-    if n < 10 {
-        return name.followed_by(&[b'0' + n as u8]);
-    }
-    let Some(front) = numbered(name, n / 10) else {
-        return None;
-    };
-    front.followed_by(&[b'0' + (n % 10) as u8])
+    name.followed_by(itoa::Buffer::new().format(n).as_bytes())
 }
 
 // The frame's beginning with a word behind it.
 fn begun(word: &[u8]) -> Option<Name>
     ensures { result ≡ made_of (codes "_$" ++ word.now) }
 {
-    let Some(frame) = Name::new(b"_$") else {
-        return None;
-    };
-    frame.followed_by(word)
+    Name::new(b"_$")?.followed_by(word)
 }
 
 // For a name that cannot stand in its spellings.
 fn begun_by_number(attempt: u16) -> Option<Name>
     ensures { result ≡ made_of ((codes "_$" ++ codes "property") ++ decimal attempt) }
 {
-    let Some(front) = begun(b"property") else {
-        return None;
-    };
-    numbered(front, attempt)
+    numbered(begun(b"property")?, attempt)
 }
 
 // For an identifier name.
 fn begun_by_name(original: &[u8], attempt: u16) -> Option<Name>
     ensures { result ≡ made_of ((codes "_$" ++ original.now) ++ attempt_mark attempt) }
 {
-    let Some(front) = begun(original) else {
-        return None;
-    };
+    let front = begun(original)?;
     if attempt == 0 {
         return Some(front);
     }
-    let Some(marked) = front.followed_by(b"$") else {
-        return None;
-    };
-    numbered(marked, attempt)
+    numbered(front.followed_by(b"$")?, attempt)
 }
 
 // The frame's beginning, and what tells the attempts of a name apart.
@@ -72,42 +56,34 @@ fn begun_with(original: &[u8], attempt: u16) -> Option<Name>
 }
 
 // The debug spelling of a name at an attempt; none where it has over 255 bytes.
+#[tactic(auto, using(crate::proofs::Framing::text_behind), unfolding(crate::specs::Debugging::debug_name))]
 pub fn debug_name(original: &[u8], attempt: u16) -> Option<Name>
     ensures { result ≡ made_of (debug_name original.now attempt) }
 {
-    let Some(front) = begun_with(original, attempt) else {
-        return None;
-    };
-    front.followed_by(b"$_")
+    begun_with(original, attempt)?.followed_by(b"$_")
 }
 
 // The speller of names in which the original can be read.
-#[derive(Clone, Copy)]
+#[derive(Clone, Copy, Debug)]
 pub struct DebugSpeller;
 
 // A name's list has the debug spellings of the attempts 0 to 65,535 that have at most 255 bytes.
 impl Speller for DebugSpeller {
     ghost list = { λ _ original. attempts (debug_name original) 255 };
 
-    ghost limit = { λ _. 255 };
-
     const MAX_LEN: usize = 255;
+
+    ghost MAX_LEN = { 255 };
 
     ghost lawful = { λ s original. debug_lawful original };
 
     ghost within = { Prim.search rules };
 
-    fn longest(&self) -> usize {
-        <DebugSpeller as Speller>::MAX_LEN
-    }
-
     fn spell(&self, original: &[u8], n: u32) -> Option<Name>
         ensures answer { result ≡ as_name (slice_get (attempts (debug_name original.now) 255) n) }
         ensures edges { DebugEdges }
     {
-        match u16::try_from(n) {
-            Ok(attempt) => debug_name(original, attempt),
-            Err(_) => None,
-        }
+        let attempt = u16::try_from(n).ok()?;
+        debug_name(original, attempt)
     }
 }

@@ -19,14 +19,16 @@ const LATER_BASE: u16 = 64;
 // The letters, in the order of the digits that they stand for.
 const ALPHABET: [u8; 64] = *b"abcdefghijklmnopqrstuvwxyzABCDEFGHIJKLMNOPQRSTUVWXYZ$_0123456789";
 
-// A spelling of at most three bytes; those past its length are zero.
-#[derive(Clone, Copy)]
+// A spelling of at most three bytes; those past its length are zero. Its form is fixed, three bytes and a count: it is
+// answered by value, and borrows nothing.
+#[derive(Clone, Copy, Debug, PartialEq, Eq)]
 pub struct ShortSpelling {
     bytes: [u8; 3],
     len: u8,
 }
 
 impl ShortSpelling {
+    // The bytes up to its length.
     pub fn as_bytes(&self) -> &[u8]
         ensures { result.now ≡ take self.now.len self.now.bytes }
     {
@@ -36,6 +38,8 @@ impl ShortSpelling {
     }
 }
 
+// The letter of a digit.
+#[tactic(auto, unfolding(crate::specs::Numbering::letter))]
 fn letter_of(digit: u16) -> u8
     requires { digit < 64 }
     ensures { result ≡ letter digit }
@@ -44,64 +48,48 @@ fn letter_of(digit: u16) -> u8
 }
 
 // The short spelling of a number: a first digit in base 54, and then, while something is left, digits in base 64, with 1
-// taken from what is left before each.
+// taken from what is left before each. The digits are counted by hand, since the form of what is answered is fixed: three
+// bytes and a count.
 pub fn base54(n: u16) -> ShortSpelling
     ensures spelled { result ≡ three_bytes (short n) }
     ensures written { WrittenOnce }
     ensures apart { SpelledApart }
     ensures edges { ShortEdges }
 {
-    let first = letter_of(n % FIRST_BASE);
-    let left = n / FIRST_BASE;
-    if left == 0 {
-        return ShortSpelling {
-            bytes: [first, 0, 0],
-            len: 1,
-        };
+    let mut bytes = [letter_of(n % FIRST_BASE), 0, 0];
+    let mut len = 1;
+    let mut left = n / FIRST_BASE;
+    while left > 0 {
+        left -= 1;
+        bytes[usize::from(len)] = letter_of(left % LATER_BASE);
+        left /= LATER_BASE;
+        len += 1;
     }
-    let second = letter_of((left - 1) % LATER_BASE);
-    let left = (left - 1) / LATER_BASE;
-    if left == 0 {
-        return ShortSpelling {
-            bytes: [first, second, 0],
-            len: 2,
-        };
-    }
-    let third = letter_of((left - 1) % LATER_BASE);
-    ShortSpelling {
-        bytes: [first, second, third],
-        len: 3,
-    }
+    ShortSpelling { bytes, len }
 }
 
 // The speller of short names.
-#[derive(Clone, Copy)]
+#[derive(Clone, Copy, Debug)]
 pub struct ShortSpeller;
 
 // All names have the same list: the short spellings of the numbers 0 to 65,535.
 impl Speller for ShortSpeller {
     ghost list = { λ _ _. attempts short 3 };
 
-    ghost limit = { λ _. 3 };
-
     const MAX_LEN: usize = 3;
+
+    ghost MAX_LEN = { 3 };
 
     ghost lawful = { λ s original. short_lawful };
 
     ghost within = { Prim.search rules };
 
-    fn longest(&self) -> usize {
-        <ShortSpeller as Speller>::MAX_LEN
-    }
-
     fn spell(&self, original: &[u8], n: u32) -> Option<Name>
         ensures answer { result ≡ as_name (slice_get (attempts short 3) n) }
         ensures full { length (attempts short 3) ≡ 65536 }
     {
-        match u16::try_from(n) {
-            Ok(n) => Name::new(base54(n).as_bytes()),
-            Err(_) => None,
-        }
+        let n = u16::try_from(n).ok()?;
+        Name::new(base54(n).as_bytes())
     }
 
     fn has_one_list(&self) -> bool

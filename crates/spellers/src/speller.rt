@@ -13,15 +13,18 @@ pub trait Speller {
     // The list of an original name.
     ghost list: { Self → List ℕ → List (List ℕ) };
 
-    // The value of MAX_LEN, which no statement can name.
-    ghost limit: { Self → ℕ };
-
-    // No spelling has more bytes; at most 255.
+    // No spelling has more bytes; at most 255. By the rules, each speller tells such a length.
     const MAX_LEN: usize;
 
-    // MAX_LEN, where it can be promised what it is.
+    // By this the clauses and laws name the constant; the check holds each impl's value to it.
+    ghost MAX_LEN: { ℕ };
+
+    // MAX_LEN of a speller at hand.
     fn longest(&self) -> usize
-        ensures { result ≡ limit self.now };
+        ensures { result ≡ MAX_LEN }
+    {
+        Self::MAX_LEN
+    }
 
     // The spelling at place n of the original name's list, from 0; none exactly past the list's end.
     fn spell(&self, original: &[u8], n: u32) -> Option<Name>
@@ -35,7 +38,7 @@ pub trait Speller {
         false
     }
 
-    ghost lawful: { (s : Self) (original : List ℕ) → Lawful (list s original) (limit s) };
+    ghost lawful: { (s : Self) (original : List ℕ) → Lawful (list s original) MAX_LEN };
 
-    ghost within: { (s : Self) → limit s ≤ 255 };
+    ghost within: { MAX_LEN ≤ 255 };
 }

@@ -1,82 +1,39 @@
 // What the matchers answer.
-use crate::cases::at;
-use matchers::{Matcher, Pattern, Without, WordList};
+use matchers::{Matcher, Pattern, Without};
 
-// Whether a matcher answers `yes` or `no`, as it is to.
-fn answers<M: Matcher>(matcher: &M, answer: &[u8], name: &[u8]) -> bool {
-    let found = matcher.is_match(name);
-    if found {
-        answer == b"yes".as_slice()
-    } else {
-        answer == b"no".as_slice()
+// What a matcher is to answer of a name: `yes` or `no`.
+#[derive(Clone, Copy)]
+pub struct Question<'a> {
+    pub name: &'a [u8],
+    pub answer: &'a [u8],
+}
+
+impl Question<'_> {
+    // Whether the matcher answers so.
+    pub fn holds<M: Matcher>(self, matcher: &M) -> bool {
+        let found: &[u8] = if matcher.is_match(self.name) {
+            b"yes"
+        } else {
+            b"no"
+        };
+        found == self.answer
     }
 }
 
-// match|ANSWER|PATTERN|NAME
-pub fn pattern_holds(fields: &[Vec<u8>]) -> bool {
-    let pattern = Pattern {
-        bytes: at(fields, 2),
-    };
-    answers(&pattern, at(fields, 1), at(fields, 3))
-}
-
-fn words_answer(words: &[&[u8]], answer: &[u8], name: &[u8]) -> bool {
-    answers(&WordList { words }, answer, name)
-}
-
-// words|ANSWER|NAME, with up to three words behind it.
-pub fn words_hold(fields: &[Vec<u8>]) -> bool {
-    let room: &[&[u8]] = &[at(fields, 3), at(fields, 4), at(fields, 5)];
-    match room.get(..fields.len().saturating_sub(3)) {
-        Some(words) => words_answer(words, at(fields, 1), at(fields, 2)),
-        None => false,
-    }
-}
-
-fn difference_answers<'a>(
-    take: Pattern<'a>,
-    leave: Option<Pattern<'a>>,
-    answer: &[u8],
-    name: &[u8],
-) -> bool {
-    let matcher = Without {
-        include: take,
-        exclude: leave,
-    };
-    answers(&matcher, answer, name)
-}
-
-// What a line of `without` leaves out; one of `only` is shorter, and leaves nothing.
-fn left_out(fields: &[Vec<u8>]) -> Option<Pattern> {
-    if fields.len() > 4 {
-        Some(Pattern {
-            bytes: at(fields, 3),
+// without|ANSWER|TAKE|LEAVE|NAME, of both matchers that leave a pattern out
+pub fn without_holds(question: Question, take: &[u8], leave: &[u8]) -> bool {
+    let include = Pattern { bytes: take };
+    let exclude = Pattern { bytes: leave };
+    question.holds(&Without { include, exclude })
+        && question.holds(&Without {
+            include,
+            exclude: Some(exclude),
         })
-    } else {
-        None
-    }
-}
-
-// without|ANSWER|TAKE|LEAVE|NAME
-pub fn without_holds(fields: &[Vec<u8>]) -> bool {
-    let take = Pattern {
-        bytes: at(fields, 2),
-    };
-    let leave = Pattern {
-        bytes: at(fields, 3),
-    };
-    let matcher = Without {
-        include: take,
-        exclude: leave,
-    };
-    answers(&matcher, at(fields, 1), at(fields, 4))
-        && difference_answers(take, left_out(fields), at(fields, 1), at(fields, 4))
 }
 
 // only|ANSWER|TAKE|NAME
-pub fn only_holds(fields: &[Vec<u8>]) -> bool {
-    let take = Pattern {
-        bytes: at(fields, 2),
-    };
-    difference_answers(take, left_out(fields), at(fields, 1), at(fields, 3))
+pub fn only_holds(question: Question, take: &[u8]) -> bool {
+    let include = Pattern { bytes: take };
+    let exclude: Option<Pattern> = None;
+    question.holds(&Without { include, exclude })
 }

@@ -1,24 +1,18 @@
 -- Each way out of a search and of an insertion.
-use Rattle.std.proofs.Common.{◌≡◌, ℕ, ◌+◌, ◌<◌, ◌≤◌, min, Bool, false, List, length, get_or, take, drop, set, Some, None, Option, sym, ap, ◌∙◌, subst, ⊎_elim, arith, length-set, length-take}
+use Rattle.std.proofs.Common.{◌≡◌, ℕ, ◌+◌, ◌<◌, ◌≤◌, min, Bool, false, List, length, get_or, take, set, Some, None, Ok, Err, Option, Result, sym, ap, ◌∙◌, subst, ⊎_elim, arith, length-set, length-take}
 use lib.Seq.{take-set-lt}
-use Rattle.std.proofs.lemmas.List.{get_or-take, drop-set-lt, take_all}
+use Rattle.std.proofs.lemmas.List.{get_or-take}
 use Rattle.std.proofs.lemmas.Bool.{cases_eq, cases_lt}
+use Rattle.std.specs.List.Sorted.{IsSearchInRange}
+use Rattle.std.specs.Result.{result_ok}
 use Rattle.table.specs.declared.table.Entry.{Entry}
 use Rattle.table.specs.declared.table.Table.{Table}
 use Rattle.table.specs.Calls.{Stored}
 use Rattle.table.specs.Maps.{Ascending, equivalent, lookup, inserted}
-use Rattle.table.specs.Rows.{memory, rows, Sound, SameMemory}
-use Rattle.table.specs.Search.{Found, Missing, PutIn}
+use Rattle.table.specs.Rows.{memory, rows, Sound}
+use Rattle.table.specs.Search.{Found, Missing, PutIn, Sought}
 use Rattle.table.proofs.Mapping.{equivalent_from, before_apart, after_apart, looked_up, ascending_inserted, lookup_none, lookup_at, inserted_new, inserted_same}
 use Rattle.table.proofs.Places.{Order}
-
--- as many rows as there are, up to the end of the memory
-pub take_within : {X : Type 0} (n m : ℕ) (xs : List X) → m ≡ min n (length xs) → take m xs ≡ take n xs
-take_within n m xs e =
-    ⊎_elim
-    (λ l. let e' : m ≡ n = omega arith in ap (λ k. take k xs) e')
-    (λ l. let e' : m ≡ length xs = omega arith in ap (λ k. take k xs) e' ∙ (take_all (length xs) xs (omega arith) ∙ sym (take_all n xs l)))
-    (cases_lt n (length xs))
 
 -- a row lies in the memory, and below the number of rows
 pub row_in_memory : {X : Type 0} (n at : ℕ) (xs : List X) → at < length (take n xs) → (at < length xs) × (at < n)
@@ -27,12 +21,6 @@ row_in_memory n at xs l = let e = length-take n xs in (omega arith, omega arith)
 -- What is found in a slice that holds the rows is found in the table.
 pub found_in_rows : {K V : Type 0} (t : Table K V) (all : List (Entry K V)) (at : ℕ) → all ≡ rows t → at < length all → at < length (rows t)
 found_in_rows t all at e l = subst (λ rs. at < length rs) e l
-
-pub found_in_memory : {K V : Type 0} (t : Table K V) (all : List (Entry K V)) (at : ℕ) → all ≡ rows t → at < length all → at < length (memory t)
-found_in_memory t all at e l = (row_in_memory t.len at (memory t) (found_in_rows t all at e l)).0
-
-pub never_none : {X : Type 0} (x : X) → Some x ≡ None → ⊥
-never_none x e = let z : ◌≡◌ {A = ℕ} 0 1 = cc in omega arith
 
 module _ {K V : Type 0} (less : K → K → Bool) (laws : Order less) (key : K) (all : List (Entry K V)) (at : ℕ) where
   pub found_value : (d : Entry K V) → at < length all → Found less key all at → lookup less key all ≡ Some (get_or all at d).value
@@ -53,6 +41,16 @@ module _ {K V : Type 0} (less : K → K → Bool) (laws : Order less) (key : K) 
           (cases_eq i at))
           (cases_lt i at)
 
+-- What a search comes to, by whether it found a row.
+module _ {K V : Type 0} {less : K → K → Bool} (laws : Order less) (key : K) (all : List (Entry K V)) where
+  pub looked_past : (r : Result ℕ ℕ) → result_ok r ≡ None → Ascending less all → Sought less key all r → None ≡ lookup less key all
+  looked_past (Ok at) e up s = cc
+  looked_past (Err at) e up s = sym (missing_none less laws key all at up s)
+
+  pub looked_at : (r : Result ℕ ℕ) (at : ℕ) (d : Entry K V) → result_ok r ≡ Some at → IsSearchInRange r (length all) → Sought less key all r → Some (get_or all at d).value ≡ lookup less key all
+  looked_at (Ok p) at d e l s = let same : p ≡ at = cc in subst (λ q. Some (get_or all q d).value ≡ lookup less key all) same (sym (found_value less laws key all p d l s))
+  looked_at (Err p) at d e l s = cc
+
 -- What an insertion comes to where it is not refused.
 module _ {K V : Type 0} (less : K → K → Bool) (laws : Order less) (limit : ℕ) (key : K) (value : V) (before after : Table K V) (old : Option V) where
   pub stored :
@@ -71,13 +69,14 @@ module _ {K V : Type 0} (less : K → K → Bool) (laws : Order less) (limit : �
       }
 
 module _ {K V : Type 0} (less : K → K → Bool) (laws : Order less) (limit : ℕ) (key : K) (value : V) (before after : Table K V) (at : ℕ) where
-  pub stored_same : (d e : Entry K V) →
+  pub stored_same : (d : Entry K V) (old : V) →
+      old ≡ (get_or (memory before) at d).value →
       memory after ≡ set (memory before) at (record { key = (get_or (memory before) at d).key; value = value }) →
       after.len ≡ before.len → at < length (rows before) → Found less key (rows before) at → Sound less before →
-      Stored less limit key value before after (Some (get_or (memory before) at e).value)
-  stored_same d e is len_is l f s =
+      Stored less limit key value before after (Some old)
+  stored_same d old had is len_is l f s =
       stored less laws limit key value before after _ was
-      (λ none_is. absurd (never_none _ (was ∙ none_is))) rows_are
+      (λ none_is. let found : Some old ≡ None = was ∙ none_is in cc) rows_are
       (subst (λ n. n ≤ length (memory after)) (sym len_is) (subst (λ n. before.len ≤ n) (sym (ap length is ∙ length-set (memory before) at _)) s.within))
       s.ascending
     where
@@ -87,8 +86,8 @@ module _ {K V : Type 0} (less : K → K → Bool) (laws : Order less) (limit : �
       same_row : (x : Entry K V) → get_or (rows before) at x ≡ get_or (memory before) at x
       same_row x = get_or-take before.len (memory before) at x below_len
 
-      was : Some (get_or (memory before) at e).value ≡ lookup less key (rows before)
-      was = ap (λ (x : Entry K V). Some x.value) (sym (same_row e)) ∙ sym (found_value less laws key (rows before) at e l f)
+      was : Some old ≡ lookup less key (rows before)
+      was = ap Some (had ∙ ap (λ (x : Entry K V). x.value) (sym (same_row d))) ∙ sym (found_value less laws key (rows before) at d l f)
 
       rows_are : rows after ≡ inserted less key value (rows before)
       rows_are =
@@ -110,18 +109,3 @@ module _ {K V : Type 0} (less : K → K → Bool) (laws : Order less) (limit : �
       ∙ (put.moved
       ∙ sym (inserted_new less key value (rows before) at m.parted.below.before (λ d l. (m.parted.above.not_before at d (omega arith) l, m.after d l)) le)))
       (omega arith) s.ascending
-
--- The memory stays.
-module _ {K V : Type 0} (before after : Table K V) (at : ℕ) (entry : Entry K V) (lent : after.entries.ghost_name ≡ before.entries.ghost_name) where
-  pub same_memory_set : memory after ≡ set (memory before) at entry → after.len ≡ before.len → at < length (rows before) → SameMemory before after
-  same_memory_set is len_is l =
-      record {
-        lent = lent;
-        room = ap length is ∙ length-set (memory before) at entry;
-        past = ap (λ xs. drop after.len xs) is ∙ drop-set-lt after.len (memory before) at entry (subst (λ n. at < n) (sym len_is) (row_in_memory before.len at (memory before) l).1);
-      }
-
-  pub same_memory_put :
-      PutIn (memory before) before.len at entry (memory after) → after.len ≡ before.len + 1 → length (memory after) ≡ length (memory before) → SameMemory before after
-  same_memory_put put len_is same =
-      record { lent = lent; room = same; past = subst (λ n. drop n (memory after) ≡ drop n (memory before)) (sym len_is) put.past }

@@ -1,13 +1,10 @@
 -- Rows in ascending order as a map: where a key is found, what an insertion gives, and that it keeps the order.
-use Rattle.std.proofs.Common.{◌≡◌, ℕ, zero, suc, ◌<◌, ◌≤◌, Bool, true, false, cond, List, [], ◌∷◌, ◌++◌, length, get_or, take, drop, set, Some, None, sym, refl, ap, ◌∙◌, ⊎_elim, arith}
-use Rattle.std.proofs.lemmas.Bool.{cases_Bool, both_ways, cond_both, cond-true, cond-false, and_parts, and_from, and_left, and_right, not-true, not_from_true, not_from_false}
+use Rattle.std.proofs.Common.{◌≡◌, ℕ, zero, suc, ◌<◌, ◌≤◌, Bool, true, false, cond, List, [], ◌∷◌, ◌++◌, length, get_or, take, drop, set, Some, None, refl, ap, ◌∙◌, ⊎_elim, arith}
+use Rattle.std.specs.Cmp.{both_ways as same_tests}
+use Rattle.std.proofs.lemmas.Bool.{false_from_ne_true, cases_Bool, both_ways, cond_both, cond-true, cond-false, and_parts, and_from, and_left, and_right, not-true, not_from_true, not_from_false}
 use Rattle.table.specs.declared.table.Entry.{Entry}
 use Rattle.table.specs.Maps.{Ascending, equivalent, lookup, inserted}
-use Rattle.table.proofs.Places.{Order, false_since}
-
-same_tests : (s t : Bool) → (s ≡ true → t ≡ true) → (t ≡ true → s ≡ true) → s ≡ t
-same_tests true t forth back = sym (forth refl)
-same_tests false t forth back = sym (false_since t (λ e. both_ways false refl (back e)))
+use Rattle.table.proofs.Places.{Order}
 
 module _ {K : Type 0} (less : K → K → Bool) where
   pub equivalent_from : (a b : K) → less a b ≡ false → less b a ≡ false → equivalent less a b ≡ true
@@ -23,7 +20,7 @@ module _ {K : Type 0} (less : K → K → Bool) (laws : Order less) where
   -- a key is equivalent to at most one of two keys in order
   pub not_both : (k a b : K) → less a b ≡ true → equivalent less k a ≡ true → equivalent less k b ≡ false
   not_both k a b l e =
-      false_since _ (λ f.
+      false_from_ne_true _ (λ f.
       both_ways _ (not-true _ (and_parts _ _ e).1) (laws.comparable a k b l (not-true _ (and_parts _ _ f).0)))
 
   -- equivalent keys stand alike to every key

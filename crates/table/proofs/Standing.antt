@@ -5,18 +5,9 @@ use Rattle.std.proofs.lemmas.Bool.{cases_Bool, cond-true, cond-false}
 use Rattle.table.specs.declared.table.Entry.{Entry}
 use Rattle.table.specs.declared.table.Table.{Table}
 use Rattle.table.specs.Maps.{Ascending, equivalent, lookup}
-use Rattle.table.specs.Rows.{memory, rows, Sound}
-use Rattle.table.proofs.Inserting.{never_none}
+use Rattle.table.specs.Rows.{rows, Sound}
 use Rattle.table.proofs.Mapping.{equivalent_from, lookup_at}
 use Rattle.table.proofs.Places.{Order}
-
--- A table with no rows is sound, whatever its memory holds.
-pub sound_empty : {K V : Type 0} (less : K → K → Bool) (t : Table K V) → t.len ≡ 0 → Sound less t
-sound_empty less t e =
-    record {
-      within = omega arith;
-      ascending = record { ordered = λ i j d h l. absurd (omega (arith, length-take t.len (memory t))) };
-    }
 
 -- A sound table has as many rows as it says.
 pub sound_length : {K V : Type 0} (less : K → K → Bool) (t : Table K V) → Sound less t → length (rows t) ≡ t.len
@@ -30,12 +21,6 @@ lookup_row less laws all i d up l =
     (λ j e h. subst (λ (x : Entry _ _). less (get_or all j e).key x.key ≡ true) (get_or_default all i e d l) (up.ordered j i e h l))
     (equivalent_from less _ _ (laws.irreflexive _) (laws.irreflexive _)) l
 
-never_some : {X : Type 0} (x : X) → None ≡ Some x → ⊥
-never_some x e = let z : ◌≡◌ {A = ℕ} 0 1 = cc in omega arith
-
-some_same : {X : Type 0} (x y : X) → Some x ≡ Some y → x ≡ y
-some_same x y e = cc
-
 -- A row whose key is equivalent to a key.
 pub record RowOf {K V : Type 0} (less : K → K → Bool) (key : K) (all : List (Entry K V)) (value : V) : Type 0 where
   pub place : ℕ
@@ -46,14 +31,14 @@ pub record RowOf {K V : Type 0} (less : K → K → Bool) (key : K) (all : List 
 -- What is looked up is the value of such a row.
 pub lookup_some : {K V : Type 0} (less : K → K → Bool) (key : K) (all : List (Entry K V)) (value : V) →
     lookup less key all ≡ Some value → RowOf less key all value
-lookup_some less key [] value e = absurd (never_some _ e)
+lookup_some less key [] value e = absurd (cc)
 lookup_some less key (r ∷ rs) value e =
     ⊎_elim
     (λ t. record {
       place = zero;
       within = omega arith;
       same = λ d. t;
-      value_is = λ d. some_same _ _ (sym (cond-true _ _ _ t) ∙ e);
+      value_is = λ d. let same : Some r.value ≡ Some value = sym (cond-true _ _ _ t) ∙ e in cc;
     })
     (λ f. one_on (lookup_some less key rs value (sym (cond-false _ _ _ f) ∙ e)))
     (cases_Bool (equivalent less key r.key))
@@ -63,7 +48,7 @@ lookup_some less key (r ∷ rs) value e =
 
 first_apart : {K V : Type 0} (less : K → K → Bool) (key : K) (r : Entry K V) (rs : List (Entry K V)) →
     lookup less key (r ∷ rs) ≡ None → equivalent less key r.key ≡ false
-first_apart less key r rs e = ⊎_elim (λ t. absurd (never_none _ (sym (cond-true _ _ _ t) ∙ e))) (λ f. f) (cases_Bool _)
+first_apart less key r rs e = ⊎_elim (λ t. let none : Some r.value ≡ None = sym (cond-true _ _ _ t) ∙ e in cc) (λ f. f) (cases_Bool _)
 
 -- Where nothing is found, no row's key is equivalent to the key.
 pub lookup_apart : {K V : Type 0} (less : K → K → Bool) (key : K) (all : List (Entry K V)) →

@@ -29,11 +29,6 @@ abbrev pub Sought : {K V : Type 0} (less : K → K → Bool) (key : K) (rows : L
 Sought less key rows (Ok place) = Found less key rows place
 Sought less key rows (Err place) = Missing less key rows place
 
--- A row lies among the rows, and a new one may also come after the last.
-abbrev pub Placed : ℕ → Result ℕ ℕ → Type 0
-Placed count (Ok place) = place < count
-Placed count (Err place) = place ≤ count
-
 -- An entry is put in among the first entries, those from its place on are moved up by one, and the others stay.
 pub record PutIn {K V : Type 0} (before : List (Entry K V)) (len at : ℕ) (entry : Entry K V) (after : List (Entry K V)) : Type 0 where
   pub moved : take (len + 1) after ≡ take at (take len before) ++ (entry ∷ drop at (take len before))

@@ -4,7 +4,8 @@ ghost use Rattle.table.specs.Search.{PutIn};
 
 use crate::table::Entry;
 
-// Puts an entry at a place among the first `len` entries, and those from there on one higher.
+// Puts an entry at a place among the first `len` entries, and those from there on one higher. Lent only
+// `self.entries[..=len]`, it would leave a memory of which the check knows nothing but the length.
 pub(crate) fn put_in<K: Copy, V: Copy>(
     entries: &mut [Entry<K, V>],
     len: usize,
@@ -14,8 +15,6 @@ pub(crate) fn put_in<K: Copy, V: Copy>(
     requires { (at ≤ len) × (len < length entries.old) }
     ensures { PutIn entries.old len at entry entries.new }
 {
-    for i in (at..len).rev() {
-        entries[i + 1] = entries[i];
-    }
+    entries.copy_within(at..len, at + 1);
     entries[at] = entry;
 }

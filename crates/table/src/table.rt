@@ -2,21 +2,23 @@
 ghost use Rattle.std.specs.Prelude.{◌≡◌, length, ◌==◌};
 ghost use Rattle.std.specs.List.{slice_get};
 ghost use Rattle.table.specs.Calls.{Answered, Grows};
-ghost use Rattle.table.specs.Maps.{lookup};
+ghost use Rattle.table.specs.Maps.{before, lookup};
 ghost use Rattle.table.specs.Rows.{cleared, memory, rows, SameMemory, Sound};
 
 use crate::finding::{look_up, seek};
-use crate::key::Key;
 use crate::shift::put_in;
+use std::mem::replace;
 
 // A key with its value.
-#[derive(Clone, Copy)]
+#[derive(Clone, Copy, PartialEq, Eq, Debug, Default)]
 pub struct Entry<K, V> {
     pub key: K,
     pub value: V,
 }
 
-// An ordered map: the first `len` of the entries that the caller lends, in ascending order of their keys.
+// An ordered map: the first `len` of the entries that the caller lends, in ascending order of their keys. The library
+// takes no memory of its own. The calls promise the order (`Sound`), and it is no invariant: a table may be made over
+// memory that holds anything.
 #[derive(Drop)]
 pub struct Table<'a, K, V> {
     pub entries: &'a mut [Entry<K, V>],
@@ -24,17 +26,25 @@ pub struct Table<'a, K, V> {
 }
 
 // There is no room for a new key.
-#[derive(Clone, Copy)]
+#[derive(Clone, Copy, PartialEq, Eq, Debug)]
 pub struct Full;
 
-impl<'a, K: Key, V: Copy> Table<'a, K, V> {
+impl<'a, K: Ord + Copy, V: Copy> Table<'a, K, V> {
+    // A table with no rows in the memory that is lent. The memory stays as it is.
+    pub fn new(entries: &'a mut [Entry<K, V>]) -> Table<'a, K, V>
+        ensures empty { result.len ≡ 0 }
+        ensures lent { result.entries ≡ entries.entry }
+        ensures sound { Sound (before K.cmp) result }
+    {
+        Table { entries, len: 0 }
+    }
+
     // The rows, in ascending order of their keys.
     pub fn rows(&self) -> &[Entry<K, V>]
         ensures { result.now ≡ rows self.now }
     {
-        let entries: &[Entry<K, V>] = self.entries;
-        let len = self.len.min(entries.len());
-        &entries[..len]
+        let len = self.len.min(self.entries.len());
+        &self.entries[..len]
     }
 
     // The number of rows.
@@ -54,13 +64,12 @@ impl<'a, K: Key, V: Copy> Table<'a, K, V> {
     pub fn at(&self, i: usize) -> Option<Entry<K, V>>
         ensures { result ≡ slice_get (rows self.now) i }
     {
-        let rows = self.rows();
-        if i < rows.len() { Some(rows[i]) } else { None }
+        self.rows().get(i).copied()
     }
 
     // The value of a key, where the table has an equivalent one.
     pub fn find(&self, key: &K) -> Option<V>
-        ensures { Sound K.Key.less self.now → result ≡ lookup K.Key.less key.now (rows self.now) }
+        ensures { Sound (before K.cmp) self.now → result ≡ lookup (before K.cmp) key.now (rows self.now) }
     {
         look_up(self.rows(), key)
     }
@@ -68,7 +77,7 @@ impl<'a, K: Key, V: Copy> Table<'a, K, V> {
     // Takes all rows out. The memory stays as it is.
     pub fn clear(&mut self)
         ensures empty { self.new ≡ cleared self.old }
-        ensures sound { Sound K.Key.less self.new }
+        ensures sound { Sound (before K.cmp) self.new }
     {
         self.len = 0;
     }
@@ -78,12 +87,11 @@ impl<'a, K: Key, V: Copy> Table<'a, K, V> {
     pub fn insert_within(&mut self, limit: usize, key: K, value: V) -> Result<Option<V>, Full>
         ensures lent { SameMemory self.old self.new }
         ensures grows { Grows self.old self.new result }
-        ensures answered { Sound K.Key.less self.old → Answered K.Key.less limit key value self.old self.new result }
+        ensures answered { Sound (before K.cmp) self.old → Answered (before K.cmp) limit key value self.old self.new result }
     {
         match seek(self.rows(), &key) {
             Ok(at) => {
-                let old = self.entries[at].value;
-                self.entries[at].value = value;
+                let old = replace(&mut self.entries[at].value, value);
                 Ok(Some(old))
             }
             Err(at) => {
@@ -102,7 +110,7 @@ impl<'a, K: Key, V: Copy> Table<'a, K, V> {
     pub fn insert(&mut self, key: K, value: V) -> Result<Option<V>, Full>
         ensures lent { SameMemory self.old self.new }
         ensures grows { Grows self.old self.new result }
-        ensures answered { Sound K.Key.less self.old → Answered K.Key.less (length (memory self.old)) key value self.old self.new result }
+        ensures answered { Sound (before K.cmp) self.old → Answered (before K.cmp) (length (memory self.old)) key value self.old self.new result }
     {
         let limit = self.entries.len();
         self.insert_within(limit, key, value)

@@ -1,5 +1,5 @@
 -- The calls: each way out of them.
-use Rattle.std.proofs.Common.{◌≡◌, ℕ, ◌+◌, ◌-◌, ◌<◌, ◌≤◌, min, Bool, true, false, leb, List, [], ◌∷◌, ◌++◌, length, get_or, take, drop, is_some, Some, None, Ok, Err, Option, Result, sym, refl, ap, ◌∙◌, subst, arith}
+use Rattle.std.proofs.Common.{◌≡◌, ℕ, ◌+◌, ◌-◌, ◌<◌, ◌≤◌, min, Bool, true, false, leb, List, [], ◌∷◌, ◌++◌, length, get_or, take, drop, Some, None, Ok, Err, Option, Result, sym, refl, ap, ◌∙◌, subst, arith}
 use Rattle.std.proofs.lemmas.List.{drop-drop, length-take-le, take_all, take-append-drop, take_more}
 use Rattle.std.proofs.lemmas.Bool.{leb-false, leb-true}
 use Rattle.table.specs.declared.table.Entry.{Entry}
@@ -13,15 +13,6 @@ use Rattle.tally.specs.Calls.{Adds, AnyOrder, Joined, Needs, Only, Overfull}
 use Rattle.tally.specs.Steps.{new_keys}
 use Rattle.tally.specs.Sums.{Merged, summed, together}
 use Rattle.tally.proofs.Together.{all_added, as_many, ascending_front, Midway, midway_all, midway_more, midway_none, new_keys_append, new_keys_more, not_yet, self_same}
-
--- what was found, as a number
-pub grown_none : {V : Type 0} (o : Option V) (n : ℕ) → is_some o ≡ false → n + 1 ≡ grown o n
-grown_none None n f = refl
-grown_none (Some v) n f = let z : ◌≡◌ {A = ℕ} 0 1 = cc in absurd (omega arith)
-
-pub grown_some : {V : Type 0} (o : Option V) (n : ℕ) → is_some o ≡ true → n ≡ grown o n
-grown_some None n t = let z : ◌≡◌ {A = ℕ} 0 1 = cc in absurd (omega arith)
-grown_some (Some v) n t = refl
 
 pub same_test : (len len' more more' room room' : ℕ) (t u : Bool) → len ≡ len' → more ≡ more' → room ≡ room' → t ≡ leb (len + more) room → t ≡ u → leb (len' + more') room' ≡ u
 same_test len len' more more' room room' t u p q r e f = cc
@@ -105,7 +96,7 @@ module _ {K V : Type 0} (less : K → K → Bool) (laws : Order less) (sum : V �
       let none : lookup less e.key (rows before) ≡ None =
       sym (not_yet less laws sum (rows before) (take i es) (rows present) e m front e.key (self_same less laws e.key)) ∙ r.new_key in
       let more : new_keys less (rows before) (take i es) + 1 ≡ new_keys less (rows before) (take (i + 1) es) =
-      ap (λ o. grown o (new_keys less (rows before) (take i es))) (sym none) ∙ new_keys_more less (rows before) es i (new_keys less (rows before) (take i es)) e is lt refl in
+      ap (λ o. grown o (new_keys less (rows before) (take i es))) (sym none) ∙ new_keys_more less (rows before) es i e is lt in
       let parts : new_keys less (rows before) es ≡ new_keys less (rows before) (take (i + 1) es) + new_keys less (rows before) (drop (i + 1) es) =
       ap (new_keys less (rows before)) (sym (take-append-drop (i + 1) es)) ∙ new_keys_append less (rows before) (take (i + 1) es) (drop (i + 1) es) in
       let len : length (rows present) ≡ present.len = length-take-le present.len (memory present) s.within in

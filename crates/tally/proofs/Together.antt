@@ -1,20 +1,16 @@
 -- Adding the entries of one list to the rows of another, one after the other.
-use Rattle.std.proofs.Common.{◌≡◌, ℕ, zero, suc, ◌+◌, ◌<◌, Bool, true, false, cond, not, ◌&&◌, ◌⊎◌, List, [], ◌∷◌, ◌++◌, length, get_or, take, Some, None, Option, sym, refl, ap, ◌∙◌, subst, inl, inr, ⊎_elim, append_assoc, add-one, arith}
+use Rattle.std.proofs.Common.{◌≡◌, ℕ, zero, suc, ◌+◌, ◌<◌, Bool, true, false, cond, not, ◌⊎◌, List, [], ◌∷◌, ◌++◌, length, get_or, take, is_some, Some, None, Option, sym, refl, ap, ◌∙◌, subst, inl, inr, ⊎_elim, append_assoc, add-one, arith}
 use Rattle.std.proofs.lemmas.List.{append-nil, get_or_default, get_or_append_left, get_or_at, length-append, take_more}
-use Rattle.std.proofs.lemmas.Bool.{and_parts, both_ways, cases_Bool, cond_both, cond-false, cond-true, not-true}
+use Rattle.std.proofs.lemmas.List.Sums.{sum_by-append}
+use Rattle.std.proofs.Math.Bool.{and_comm}
+use Rattle.std.proofs.lemmas.Bool.{false_from_ne_true, and_parts, both_ways, cases_Bool, cond_both, cond-false, cond-true, not-true}
 use Rattle.table.specs.declared.table.Entry.{Entry}
 use Rattle.table.specs.Calls.{grown}
 use Rattle.table.specs.Maps.{Ascending, equivalent, inserted, lookup}
 use Rattle.table.proofs.Mapping.{after_apart, ascending_head, ascending_inserted, ascending_tail, before_apart, equivalent_alike, equivalent_from, looked_up, lookup_none, not_both}
-use Rattle.table.proofs.Places.{Order, false_since}
+use Rattle.table.proofs.Places.{Order}
 use Rattle.tally.specs.Steps.{new_keys}
 use Rattle.tally.specs.Sums.{Among, Keys, Merged, summed, together}
-
-and_swaps : (s t : Bool) → (s && t) ≡ (t && s)
-and_swaps true true = refl
-and_swaps true false = refl
-and_swaps false true = refl
-and_swaps false false = refl
 
 pub self_same : {K : Type 0} (less : K → K → Bool) → Order less → (k : K) → equivalent less k k ≡ true
 self_same less laws k = equivalent_from less k k (laws.irreflexive k) (laws.irreflexive k)
@@ -74,12 +70,9 @@ module _ {K V : Type 0} (less : K → K → Bool) (k : K) where
   lookup_front [] fs none = refl
   lookup_front (e ∷ es) fs none =
       ⊎_elim
-      (λ t. let z : ◌≡◌ {A = ℕ} 0 1 = some_none _ (sym (cond-true (equivalent less k e.key) _ (lookup less k es) t) ∙ none) in absurd (omega arith))
+      (λ t. let found : Some e.value ≡ None = sym (cond-true (equivalent less k e.key) _ (lookup less k es) t) ∙ none in cc)
       (λ f. cond-false _ _ _ f ∙ lookup_front es fs (sym (cond-false (equivalent less k e.key) (Some e.value) _ f) ∙ none))
       (cases_Bool (equivalent less k e.key))
-    where
-      some_none : (v : V) → ◌≡◌ {A = Option V} (Some v) None → ◌≡◌ {A = ℕ} 0 1
-      some_none v q = cc
 
   pub lookup_apart : (es : List (Entry K V)) (e : Entry K V) → equivalent less k e.key ≡ false → lookup less k (es ++ e ∷ []) ≡ lookup less k es
   lookup_apart [] e f = cond-false _ _ _ f
@@ -102,7 +95,7 @@ module _ {K V : Type 0} (less : K → K → Bool) (laws : Order less) where
   last_is_new es e k up same = lookup_none less k es apart
     where
       apart : (i : ℕ) (d : Entry K V) → i < length es → equivalent less k (get_or es i d).key ≡ false
-      apart i d h = false_since _ (λ t. both_ways _ (not_both less laws k _ e.key earlier t) same)
+      apart i d h = false_from_ne_true _ (λ t. both_ways _ (not_both less laws k _ e.key earlier t) same)
         where
           earlier : less (get_or es i d).key e.key ≡ true
           earlier =
@@ -120,7 +113,7 @@ module _ {K V : Type 0} (less : K → K → Bool) (laws : Order less) where
       ap (λ b. cond b (Some e.value) (lookup less k es)) t ∙ ap (λ o. cond (equivalent less key e.key) (Some e.value) o) (lookup_alike k key es same)
     where
       swapped : (a b : K) → equivalent less a b ≡ equivalent less b a
-      swapped a b = and_swaps (not (less a b)) (not (less b a))
+      swapped a b = and_comm (not (less a b)) (not (less b a))
 
   -- a key before the first is in none of the rows
   none_before : (k : K) (e : Entry K V) (es : List (Entry K V)) → Ascending less (e ∷ es) → less k e.key ≡ true → lookup less k (e ∷ es) ≡ None
@@ -149,29 +142,26 @@ module _ {K V : Type 0} (less : K → K → Bool) (laws : Order less) where
       grown_suc (Some v) n = refl
 
 -- Counting the new keys.
-grown_plus : {V : Type 0} (o : Option V) (m n : ℕ) → grown o (m + n) ≡ grown o m + n
-grown_plus None m n = omega arith
-grown_plus (Some v) m n = refl
-
-pub grown_from_zero : {V : Type 0} (o : Option V) (n : ℕ) → n + grown o 0 ≡ grown o n
-grown_from_zero None n = omega arith
-grown_from_zero (Some v) n = omega arith
+grown_counted : {V : Type 0} (o : Option V) (n : ℕ) → n + cond (not (is_some o)) 1 0 ≡ grown o n
+grown_counted None n = refl
+grown_counted (Some v) n = omega arith
 
 module _ {K V : Type 0} (less : K → K → Bool) (rows : List (Entry K V)) where
   pub new_keys_append : (es fs : List (Entry K V)) → new_keys less rows (es ++ fs) ≡ new_keys less rows es + new_keys less rows fs
-  new_keys_append [] fs = omega arith
-  new_keys_append (e ∷ es) fs = ap (grown (lookup less e.key rows)) (new_keys_append es fs) ∙ grown_plus (lookup less e.key rows) (new_keys less rows es) (new_keys less rows fs)
+  new_keys_append = sum_by-append (λ (e : Entry K V). cond (not (is_some (lookup less e.key rows))) 1 0)
 
   pub new_keys_push : (es : List (Entry K V)) (e : Entry K V) → new_keys less rows (es ++ e ∷ []) ≡ grown (lookup less e.key rows) (new_keys less rows es)
-  new_keys_push es e = new_keys_append es (e ∷ []) ∙ grown_from_zero (lookup less e.key rows) (new_keys less rows es)
+  new_keys_push es e =
+      let a = new_keys_append es (e ∷ []) in
+      let b = grown_counted (lookup less e.key rows) (new_keys less rows es) in
+      omega arith
 
   -- one turn of the count
-  pub new_keys_more : (es : List (Entry K V)) (i n : ℕ) (e : Entry K V) → e ≡ get_or es i e → i < length es → n ≡ new_keys less rows (take i es) →
-      grown (lookup less e.key rows) n ≡ new_keys less rows (take (i + 1) es)
-  new_keys_more es i n e is lt so =
-      ap (grown (lookup less e.key rows)) so
-      ∙ (sym (new_keys_push (take i es) e)
-      ∙ (ap (λ x. new_keys less rows (take i es ++ x ∷ [])) is ∙ ap (new_keys less rows) (sym (take_more es i e lt))))
+  pub new_keys_more : (es : List (Entry K V)) (i : ℕ) (e : Entry K V) → e ≡ get_or es i e → i < length es →
+      grown (lookup less e.key rows) (new_keys less rows (take i es)) ≡ new_keys less rows (take (i + 1) es)
+  new_keys_more es i e is lt =
+      sym (new_keys_push (take i es) e)
+      ∙ (ap (λ x. new_keys less rows (take i es ++ x ∷ [])) is ∙ ap (new_keys less rows) (sym (take_more es i e lt)))
 
 module _ {V : Type 0} (sum : V → V → V) where
   pub together_none : (o : Option V) → together sum o None ≡ o
@@ -222,8 +212,8 @@ module _ {K V : Type 0} (less : K → K → Bool) (laws : Order less) (sum : V �
         grows : grown (lookup less e.key before) (length before + new_keys less before done) ≡ length before + new_keys less before (done ++ e ∷ [])
         grows =
             let a = new_keys_push less before done e in
-            let b = grown_from_zero (lookup less e.key before) (new_keys less before done) in
-            let c = grown_from_zero (lookup less e.key before) (length before + new_keys less before done) in
+            let b = grown_counted (lookup less e.key before) (new_keys less before done) in
+            let c = grown_counted (lookup less e.key before) (length before + new_keys less before done) in
             omega arith
 
         from_both : Keys (λ k. Among before k ⊎ Among (done ++ e ∷ []) k) (inserted less e.key value rows)
@@ -278,13 +268,13 @@ module _ {K V : Type 0} (less : K → K → Bool) (laws : Order less) where
   none_in_tail k e es up same = lookup_none less k es (λ i d h. not_both less laws k e.key _ ((ascending_head less e es up).first i d h) same)
 
   some_none : (v : V) (o p : Option V) → o ≡ Some v → p ≡ None → o ≡ p → ⊥
-  some_none v o p a b e = let z : ◌≡◌ {A = ℕ} 0 1 = cc in omega arith
+  some_none v o p a b e = cc
 
   -- where no key has another value, the first keys are equivalent
   first_not_before : (x y : Entry K V) (xs ys : List (Entry K V)) → Ascending less (y ∷ ys) →
       ((k : K) → lookup less k (x ∷ xs) ≡ lookup less k (y ∷ ys)) → less x.key y.key ≡ false
   first_not_before x y xs ys up same =
-      false_since _ (λ l. some_none x.value _ _ (found_first x xs) (none_before less laws x.key y ys up l) (same x.key))
+      false_from_ne_true _ (λ l. some_none x.value _ _ (found_first x xs) (none_before less laws x.key y ys up l) (same x.key))
 
   pub as_many : (xs ys : List (Entry K V)) → Ascending less xs → Ascending less ys → ((k : K) → lookup less k xs ≡ lookup less k ys) → length xs ≡ length ys
   as_many [] [] up vp same = refl

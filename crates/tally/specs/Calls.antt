@@ -8,11 +8,6 @@ use Rattle.table.specs.Maps.{equivalent, inserted, lookup}
 use Rattle.table.specs.Rows.{memory, rows, Sound}
 use Rattle.tally.specs.Sums.{Merged, summed, together}
 
--- whatever the table, a refusal changes nothing
-abbrev pub Kept : {K V : Type 0} → Table K V → Table K V → Result (Unit {0}) Full → Type 0
-Kept before after (Ok done) = Unit {0}
-Kept before after (Err full) = after ≡ before
-
 -- a value is added to what a key had, and no other key has another value than before
 pub record Added {K V : Type 0} (less : K → K → Bool) (sum : V → V → V) (limit : ℕ) (key : K) (value : V) (before after : Table K V) : Type 0 where
   pub had_room : lookup less key (rows before) ≡ None → before.len < min limit (length (memory before))

@@ -7,11 +7,11 @@ use Rattle.pages.specs.declared.shape.Place.{Place}
 use Rattle.pages.specs.declared.shape.Place.TheVariants.{Root, Child}
 use Rattle.pages.specs.Trees.{Text, without, bytes, astray, Label, Tree, Forest, tree, none, more, count}
 use Rattle.pages.specs.Shape.{All, Fine, visits, visits_all, Lawful}
+use Rattle.pages.proofs.Fineness.{all_first, all_others, all_front, all_back, fine_text}
 use Rattle.grammar.specs.Words.{word, stands, hex}
 use Rattle.grammar.specs.Written.{out_byte, out_bytes, out_flags, out_text, out_label, out_tree, out_forest, written}
 use Rattle.grammar.specs.Grammar.{space, line_end, gap, Letter, itself, quote, backslash, digits, letter, letter_byte, letters, letters_bytes, FlagPart, unflagged, marked, flag_part, part_flags, TextPart, textless, quoted, text_part, part_text, Head, head, head_label, Form, form, Children, close, child, yield, yield_children, tree_of, forest_of, height, height_children, Listing}
 use Rattle.writer.specs.Walk.{SmallText, Small, SmallTree, SmallForest}
-use Rattle.writer.proofs.Walking.{all_first, all_others, all_front, all_back, fine_text}
 
 -- a byte as a letter
 record ByteListed (b : ℕ) : Type 0 where

@@ -1,10 +1,8 @@
 -- The written form of each piece, in front of a rest and with none.
-use Rattle.std.proofs.Common.{◌≡◌, ℕ, ◌+◌, ◌/◌, ◌%◌, ◌<◌, ◌≤◌, Bool, true, false, cond, eqb, List, [], ◌∷◌, ◌++◌, length, get_or, take, drop, replicate, decimal, sym, refl, ap, ◌∙◌, subst, append_assoc, append-nil, take-append-drop, take_all}
-use Rattle.std.proofs.lemmas.List.{take_more, drop_more}
+use Rattle.std.proofs.Common.{◌≡◌, ℕ, ◌+◌, ◌/◌, ◌%◌, Bool, true, false, cond, eqb, List, [], ◌∷◌, ◌++◌, replicate, decimal, sym, refl, ap, ◌∙◌, append_assoc, append-nil}
+use Rattle.std.specs.List.{flat_map}
 use Rattle.pages.specs.declared.row.Flags.{Flags}
 use Rattle.pages.specs.Trees.{Text, without, bytes, astray, Label, Tree, Forest, tree, none, more}
-use Rattle.writer.specs.Puts.{Wrote}
-use Rattle.writer.proofs.Putting.{wrote_both, full_after, full_before}
 use Rattle.grammar.specs.Words.{flag_word, flagged, stands, hex, word}
 use Rattle.grammar.specs.Written.{out_byte, out_bytes, out_flags, out_text, out_label, out_tree, out_forest}
 
@@ -33,44 +31,21 @@ out_bytes_rest (b ∷ s) r =
     ∙ sym (append_assoc (out_byte b []) (out_bytes s []) r)
     ∙ ap (λ (x : List ℕ). x ++ r) (sym (out_byte_rest b (out_bytes s [])))
 
-pub out_bytes_append : (a b r : List ℕ) → out_bytes (a ++ b) r ≡ out_bytes a (out_bytes b r)
-out_bytes_append [] b r = refl
-out_bytes_append (x ∷ a) b r = ap (out_byte x) (out_bytes_append a b r)
+-- a text, byte by byte
+abbrev pub as_letter : ℕ → List ℕ
+as_letter b = out_byte b []
 
--- one byte more of a text
-pub out_bytes_more : (s : List ℕ) (i : ℕ) → i < length s → out_bytes (take (i + 1) s) [] ≡ out_bytes (take i s) [] ++ out_byte (get_or s i 0) []
-out_bytes_more s i h =
-    ap (λ (x : List ℕ). out_bytes x []) (take_more s i 0 h)
-    ∙ out_bytes_append (take i s) (get_or s i 0 ∷ []) [] ∙ out_bytes_rest (take i s) (out_byte (get_or s i 0) [])
-
--- a text, around one of its bytes
-pub out_bytes_around : (s : List ℕ) (i : ℕ) → i < length s
-    → out_bytes s [] ≡ out_bytes (take i s) [] ++ (out_byte (get_or s i 0) [] ++ out_bytes (drop (i + 1) s) [])
-out_bytes_around s i h =
-    ap (λ (x : List ℕ). out_bytes x []) (sym (take-append-drop i s) ∙ ap (λ (x : List ℕ). take i s ++ x) (drop_more s i 0 h))
-    ∙ out_bytes_append (take i s) (get_or s i 0 ∷ drop (i + 1) s) []
-    ∙ out_bytes_rest (take i s) (out_byte (get_or s i 0) (out_bytes (drop (i + 1) s) []))
-    ∙ ap (λ (x : List ℕ). out_bytes (take i s) [] ++ x) (out_byte_rest (get_or s i 0) (out_bytes (drop (i + 1) s) []))
-
--- the bytes of a text so far, and one more
-pub wrote_letter : {out mid after : List ℕ} {at room next last : ℕ} (s : List ℕ) (i : ℕ) → i < length s
-    → Wrote (out_bytes (take i s) []) out at room mid next → Wrote (out_byte (get_or s i 0) []) mid next room after last
-    → Wrote (out_bytes (take (i + 1) s) []) out at room after last
-wrote_letter s i h u v = rw (out_bytes_more s i h) (wrote_both u v)
-
-pub full_letter : {out mid : List ℕ} {at room next : ℕ} (s : List ℕ) (i : ℕ) → i < length s
-    → Wrote (out_bytes (take i s) []) out at room mid next → room < next + length (out_byte (get_or s i 0) []) → room < at + length (out_bytes s [])
-full_letter {out} {mid} {at} {room} {next} s i h u f =
-    subst (λ (x : List ℕ). room < at + length x) (sym (out_bytes_around s i h))
-    (full_after (out_byte (get_or s i 0) [] ++ out_bytes (drop (i + 1) s) []) u (full_before next room (out_byte (get_or s i 0) []) (out_bytes (drop (i + 1) s) []) f))
-
-pub wrote_letters : {out after : List ℕ} {at room next : ℕ} (s : List ℕ) (i : ℕ) → length s ≤ i
-    → Wrote (out_bytes (take i s) []) out at room after next → Wrote (out_bytes s []) out at room after next
-wrote_letters s i h u = rw (take_all i s h) at u
+pub by_letter : (s : List ℕ) → out_bytes s [] ≡ flat_map as_letter s
+by_letter [] = refl
+by_letter (b ∷ s) = out_byte_rest b (out_bytes s []) ∙ ap (λ (x : List ℕ). out_byte b [] ++ x) (by_letter s)
 
 -- a quoted text and its parts
 pub quoted_parts : (s : List ℕ) → out_text (bytes s) [] ≡ (32 ∷ 34 ∷ []) ++ (out_bytes s [] ++ (34 ∷ []))
 quoted_parts s = ap (λ (x : List ℕ). 32 ∷ 34 ∷ x) (out_bytes_rest s (34 ∷ []))
+
+-- a flag's letter where it is set
+abbrev pub as_flag : Bool × ℕ → List ℕ
+as_flag (set, letter) = cond set (letter ∷ []) []
 
 pub out_flags_rest : (f : Flags) (r : List ℕ) → out_flags f r ≡ out_flags f [] ++ r
 out_flags_rest f r =

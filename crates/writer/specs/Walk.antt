@@ -1,12 +1,14 @@
 -- A tree that stands in rows, and the writing of its form: what the private walk is held to. No public promise rests on it.
-use Rattle.std.specs.Prelude.{◌≡◌, ℕ, ◌+◌, ◌^◌, ◌<◌, List, [], ◌++◌, length, drop, Some, None, Option, slice_index}
+use Rattle.std.specs.Prelude.{◌≡◌, ℕ, ◌+◌, ◌^◌, ◌<◌, ◌≤◌, List, [], ◌++◌, length, drop, Result, MatchResult, slice_index}
+use Rattle.std.proofs.lemmas.List.Edits.{sets}
 use Rattle.pages.specs.declared.row.Row.{Row}
 use Rattle.pages.specs.declared.shape.Place.{Place}
 use Rattle.pages.specs.Trees.{Text, without, bytes, astray, Label, Tree, Forest, tree, none, more, Node, nodes, shown}
 use Rattle.pages.specs.Shape.{All, Fine, visits}
 use Rattle.grammar.specs.Written.{out_tree, written}
-use Rattle.writer.specs.declared.form.Spot.{Spot}
-use Rattle.writer.specs.Puts.{Wrote}
+use Rattle.writer.specs.declared.output.Output.{Output}
+use Rattle.writer.specs.declared.output.Full.{Full}
+use Rattle.writer.specs.Puts.{Wrote, NoRoom}
 
 -- The rows from this one on show a tree, and then the rest. Each of its nodes is fine where it stands, with
 -- the root on the level of this indent.
@@ -37,18 +39,22 @@ abbrev mutual
   SmallForest none = Unit {0}
   SmallForest (more t f) = SmallTree t × SmallForest f
 
--- The form of the tree is written, and the next spot lies past its rows and bytes; or it does not fit the room.
-pub record Formed (t : Tree) (indent : ℕ) (out : List ℕ) (from : Spot) (room : ℕ) (after : List ℕ) (next : Spot) : Type 0 where
-  pub past : next.row ≡ from.row + length (nodes t)
+-- The form of the tree is written, and the next row lies past those of the tree; or it does not fit the room.
+pub record Formed (t : Tree) (indent row : ℕ) (before after : Output) (next : ℕ) : Type 0 where
+  pub past : next ≡ row + length (nodes t)
   pub small : SmallTree t
-  pub wrote : Wrote (out_tree indent t []) out from.byte room after next.byte
+  pub wrote : Wrote (out_tree indent t []) before after
 
-abbrev pub Forms : Tree → ℕ → List ℕ → Spot → ℕ → List ℕ → Option Spot → Type 0
-Forms t indent out from room after (Some next) = Formed t indent out from room after next
-Forms t indent out from room after None = room < from.byte + length (out_tree indent t [])
+abbrev pub Forms : Tree → ℕ → ℕ → Output → Output → Result ℕ Full → Type 0
+Forms t indent row before after r = MatchResult r (Formed t indent row before after) (λ _. NoRoom (out_tree indent t []) before)
 
 -- The whole listing is written from the first byte on, and its labels are such as a row can hold; or it does
 -- not fit the room.
-abbrev pub Lists : Tree → List ℕ → ℕ → List ℕ → Option ℕ → Type 0
-Lists t out room after (Some next) = SmallTree t × Wrote (written t) out 0 room after next
-Lists t out room after None = room < length (written t)
+pub record Placed (t : Tree) (out : List ℕ) (room : ℕ) (after : List ℕ) (len : ℕ) : Type 0 where
+  pub small : SmallTree t
+  pub all : len ≡ length (written t)
+  pub within : len ≤ room
+  pub put : after ≡ sets out 0 (written t)
+
+abbrev pub Lists : Tree → List ℕ → ℕ → List ℕ → Result ℕ Full → Type 0
+Lists t out room after r = MatchResult r (Placed t out room after) (λ _. room < length (written t))

@@ -6,58 +6,52 @@ ghost use Rattle.pages.specs.Trees.{shown, tree};
 ghost use Rattle.writer.specs.Walk.{Lists, Stands};
 ghost use Rattle.writer.specs.Writing.{Listed, Measured};
 
-use crate::form::{Spot, put_form};
-use crate::put::put;
-use pages::{NODE_LIMIT, Refusal, Row, TEXT_LIMIT, check_shape};
+use crate::output::{Full, Output};
+use pages::{Nodes, Refusal, is_within_limits};
 
 mod form;
 mod label;
+mod output;
 mod pieces;
-mod put;
 
-// Writes the listing of the page's tree with its last line end.
-fn put_listing(rows: &[Row], text: &[u8], out: &mut [u8], room: usize) -> Option<usize>
-    requires { Stands rows.now text.now 0 0 }
-    ensures { (s : Stands rows.now text.now 0 0) → Lists (tree s.label s.forest) out.old room out.new result }
+// Writes the listing of the page's tree with its last line end, and gives its length.
+fn put_listing(nodes: Nodes<'_>, memory: &mut [u8], room: usize) -> Result<usize, Full>
+    requires { Stands nodes.rows.now nodes.text.now 0 0 }
+    ensures { (s : Stands nodes.entry.rows.now nodes.entry.text.now 0 0) → Lists (tree s.label s.forest) memory.old room memory.new result }
 {
-    let end = put_form(rows, text, out, room, 0, Spot { row: 0, byte: 0 })?;
-    put(out, room, end.byte, b'\n')
+    let mut out = Output {
+        memory,
+        room,
+        at: 0,
+    };
+    out.put_form(nodes, 0, 0)?;
+    out.put(b'\n')?;
+    Ok(out.at)
 }
 
 // The length of the listing, which has to fit the room. Nothing is written.
-fn measure<'a>(rows: &'a [Row], text: &'a [u8], room: usize) -> Result<usize, Refusal<'a>>
-    ensures { Measured (shown text.now rows.now) (length rows.now) (length text.now) room result }
+fn measure(nodes: Nodes<'_>, room: usize) -> Result<usize, Refusal<'_>>
+    ensures { Measured (shown nodes.entry.text.now nodes.entry.rows.now) (length nodes.entry.rows.now) (length nodes.entry.text.now) room result }
 {
-    match check_shape(rows, text) {
-        Err(refusal) => return Err(refusal),
-        Ok(()) => {}
-    }
-    if rows.len() > NODE_LIMIT || text.len() > TEXT_LIMIT {
+    nodes.check_shape()?;
+    if !is_within_limits(nodes.rows.len(), nodes.text.len()) {
         return Err(Refusal::Overfull);
     }
-    match put_listing(rows, text, &mut [], room) {
-        None => Err(Refusal::Overfull),
-        Some(len) => Ok(len),
-    }
+    put_listing(nodes, &mut [], room).map_err(|_| Refusal::Overfull)
 }
 
 // The length of the listing of a page.
-pub fn written_len<'a>(rows: &'a [Row], text: &'a [u8]) -> Result<usize, Refusal<'a>>
-    ensures { Measured (shown text.now rows.now) (length rows.now) (length text.now) (2 ^ 64 - 1) result }
+pub fn written_len(nodes: Nodes<'_>) -> Result<usize, Refusal<'_>>
+    ensures { Measured (shown nodes.entry.text.now nodes.entry.rows.now) (length nodes.entry.rows.now) (length nodes.entry.text.now) (2 ^ 64 - 1) result }
 {
-    measure(rows, text, usize::MAX)
+    measure(nodes, usize::MAX)
 }
 
 // Writes the listing of a page to the front of `out`, and gives its length.
-pub fn write<'a>(rows: &'a [Row], text: &'a [u8], out: &mut [u8]) -> Result<usize, Refusal<'a>>
-    ensures { Listed (shown text.now rows.now) (length rows.now) (length text.now) out.old out.new result }
+pub fn write<'a>(nodes: Nodes<'a>, out: &mut [u8]) -> Result<usize, Refusal<'a>>
+    ensures { Listed (shown nodes.entry.text.now nodes.entry.rows.now) (length nodes.entry.rows.now) (length nodes.entry.text.now) out.old out.new result }
 {
-    match measure(rows, text, out.len()) {
-        Err(refusal) => Err(refusal),
-        Ok(len) => {
-            // It has room, since it was measured.
-            let _ = put_listing(rows, text, out, len);
-            Ok(len)
-        }
-    }
+    let len = measure(nodes, out.len())?;
+    // Not refused: it was measured.
+    put_listing(nodes, out, len).map_err(|_| Refusal::Overfull)
 }

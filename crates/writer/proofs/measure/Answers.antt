@@ -1,25 +1,21 @@
 -- The check's verdict, then the limits, then whether the listing fits.
-use Rattle.std.proofs.Common.{⊎_elim, arith}
-use Rattle.writer.proofs.Outcomes.{checked_page, page_stands, measured_unlawful, measured_overfull, measured_listed}
+use Rattle.std.proofs.Common.{rules}
+use Rattle.std.proofs.lemmas.Result.{err_from_is_err_and}
+use Rattle.writer.proofs.Outcomes.{checked_page, page_stands, measured_unlawful, measured_beyond, measured_put}
 use Rattle.writer.proofs.measure.Goals as goal
 
-pub returns-in-Err : goal.returns-in-Err
-returns-in-Err c = measured_unlawful _ _ _ c.in-Err.ensures
+pub returns-in_err-check_shape : goal.returns-in_err-check_shape
+returns-in_err-check_shape c =
+    let p = err_from_is_err_and c.from_residual.result c.from_residual.ensures.1 in rw (p.1, p.2) (measured_unlawful _ _ _ c.in_err-check_shape.ensures)
 
-pub returns-then-rows-gt-NODE_LIMIT : goal.returns-then-rows-gt-NODE_LIMIT
-returns-then-rows-gt-NODE_LIMIT c =
-    measured_overfull c.in-Ok.ensures
-    (λ h. ⊎_elim (λ a. omega (arith, h.rows_limit)) (λ b. omega (arith, h.text_limit)) c.then-rows-gt-NODE_LIMIT.either)
+pub returns-then-not-is_within_limits : goal.returns-then-not-is_within_limits
+returns-then-not-is_within_limits c = measured_beyond c.in_ok-check_shape.ensures c.if-not-is_within_limits.ensures
 
 pub put_listing-requires : goal.put_listing-requires
-put_listing-requires c = page_stands (checked_page _ c.in-Ok.ensures)
+put_listing-requires c = page_stands (checked_page _ c.in_ok-check_shape.ensures)
 
-pub returns-in-None : goal.returns-in-None
-returns-in-None c =
-    measured_overfull c.in-Ok.ensures
-    (λ h. omega (arith, h.listing_room, c.in-None.ensures (page_stands (checked_page _ c.in-Ok.ensures))))
-
-pub returns-in-Some : goal.returns-in-Some
-returns-in-Some c =
-    measured_listed c.in-Ok.ensures _ _ c.in-Some.len c.if-rows-gt-NODE_LIMIT.false c.if-text-gt-TEXT_LIMIT.false
-    (c.in-Some.ensures (page_stands (checked_page _ c.in-Ok.ensures)))
+pub returns : goal.returns
+returns c =
+    measured_put c.in_ok-check_shape.ensures _ _ c.put_listing.result c.map_err.result c.if-not-is_within_limits.ensures
+    (c.put_listing.ensures (page_stands (checked_page _ c.in_ok-check_shape.ensures)))
+    (search rules)

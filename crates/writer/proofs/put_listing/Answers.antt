@@ -1,11 +1,22 @@
+use Rattle.std.proofs.Common.{refl, rules}
+use Rattle.std.proofs.lemmas.Result.{MatchResult-from_err}
 use Rattle.pages.specs.Trees.{tree}
-use Rattle.writer.proofs.Outcomes.{lists_full, lists_after}
+use Rattle.writer.proofs.Outcomes.{list_no_form, list_no_end, lists_all}
 use Rattle.writer.proofs.put_listing.Goals as goal
 
-pub returns-in_err-end : goal.returns-in_err-end
-returns-in_err-end c =
-    λ s. lists_full (tree s.label s.forest) c.args.out.now c.args.room c.put_form.new.out c.from_residual.ensures (c.in_err-end.ensures s)
+pub returns-in_err-put_form : goal.returns-in_err-put_form
+returns-in_err-put_form c =
+    λ s. MatchResult-from_err _ _ _ c.from_residual.ensures.0 (λ _. list_no_form (tree s.label s.forest) refl (c.in_err-put_form.ensures s))
 
+pub returns-in_err-put : goal.returns-in_err-put
+returns-in_err-put c =
+    λ s. MatchResult-from_err _ _ _ c.from_residual-in_err-put.ensures.0
+    (λ _. list_no_end (tree s.label s.forest) refl (c.in_ok-put_form.ensures s) c.in_err-put.ensures)
+
+-- The memory that is left is the one that was lent, since each step kept it.
 pub returns : goal.returns
 returns c =
-    λ s. lists_after (tree s.label s.forest) c.put.new.out c.put.result (c.in_ok-end.ensures s) c.put.ensures
+    λ s. let f = c.in_ok-put_form.ensures s in
+    let p = lists_all (tree s.label s.forest) refl f c.in_ok-put.ensures in
+    let kept = f.wrote.lent in
+    record { small = p.small; all = p.all; within = p.within; put = search rules }

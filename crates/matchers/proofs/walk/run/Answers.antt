@@ -1,16 +1,9 @@
-use Rattle.std.proofs.Common.{length, sym, ◌∙◌, arith}
-use Rattle.matchers.proofs.Counting.{most_bound}
-use Rattle.matchers.proofs.Going.{walk_ends}
+use Rattle.std.proofs.Common.{sym, ◌∙◌}
+use Rattle.std.proofs.lemmas.Bool.{eqb-true}
+use Rattle.matchers.proofs.Turning.{walk_ends}
 use Rattle.matchers.proofs.walk.run.Goals as goal
 
-pub returns : goal.returns
-returns c =
-    record {
-      answer =
-          c.is_all_runs.ensures ∙ sym (walk_ends c.args.pattern.now c.args.name.now c.loop-walk.walk c.loop-walk.invariant.0 c.loop-walk-test.false);
-      bound =
-          let b = most_bound (length c.args.name.now) (length c.args.pattern.now) in
-          let i = c.loop-walk.invariant.1 in
-          omega arith;
-      count = λ _. let n = c.loop-walk.invariant.2 in omega arith;
-    }
+pub returns-clause-answer : goal.returns-clause-answer
+returns-clause-answer c =
+    let i = c.loop-walk.invariant in
+    c.is_all_runs.ensures ∙ sym (walk_ends c.loop-walk.walk i.sound (eqb-true _ 0 (sym c.loop-walk-test.ensures))) ∙ i.same

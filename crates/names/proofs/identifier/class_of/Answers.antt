@@ -6,4 +6,4 @@ use Rattle.names.proofs.identifier.class_of.Goals as goal
 -- the code's table is the rule's: antt computes all 256 entries and compares
 pub returns : goal.returns
 unfolding class starts digit
-returns c = entry_by_rule class 256 c.from.result (omega arith) ∙ ap class c.from.ensures
+returns c = entry_by_rule class 256 c.from.result _ (omega arith) ∙ ap class c.from.ensures

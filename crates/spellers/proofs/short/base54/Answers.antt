@@ -1,34 +1,24 @@
-use Rattle.std.proofs.Common.{◌-◌, ◌/◌, arith}
-use Rattle.spellers.specs.Shortening.{bytes_of_one, bytes_of_two, bytes_of_three, short_apart, short_edges, written_once}
+use Rattle.std.proofs.Common.{arith}
+use Rattle.spellers.specs.Shortening.{short_apart, short_edges, written_once}
+use Rattle.spellers.proofs.Spelling.{spelling_begins, spelling_room, spelling_more, spelling_ends}
 use Rattle.spellers.proofs.short.base54.Goals as goal
 
-pub returns-then-left-eq0 : goal.returns-then-left-eq0
-returns-then-left-eq0 c =
-    record {
-      spelled = bytes_of_one c.args.n c.letter_of-first.result 0 0 c.if-left-eq0.true c.letter_of-first.ensures;
-      written = written_once;
-      apart = short_apart;
-      edges = short_edges;
-    }
+pub loop-left-init : goal.loop-left-init
+loop-left-init c = spelling_begins c.args.n c.letter_of.result (omega arith) c.letter_of.ensures
 
-pub returns-then-left-eq0-2 : goal.returns-then-left-eq0-2
-returns-then-left-eq0-2 c =
-    record {
-      spelled =
-          bytes_of_two c.args.n c.letter_of-first.result c.letter_of-second.result 0
-          (c.args.n / 54 - 1) (omega arith) c.if-left-eq0-2.true c.letter_of-first.ensures c.letter_of-second.ensures;
-      written = written_once;
-      apart = short_apart;
-      edges = short_edges;
-    }
+pub bounds-bytes-from : goal.bounds-bytes-from
+bounds-bytes-from c =
+    omega (arith, c.from.ensures, spelling_room c.args.n c.loop-left.bytes c.loop-left.len c.loop-left.left c.loop-left.invariant c.loop-left-test.true)
+
+pub loop-left-preserved : goal.loop-left-preserved
+loop-left-preserved c =
+    rw c.from.ensures
+    (spelling_more c.args.n c.loop-left.bytes c.loop-left.len c.loop-left.left c.loop-left.invariant c.letter_of-in-loop-left.result c.loop-left-test.true c.letter_of-in-loop-left.ensures)
 
 pub returns : goal.returns
 returns c =
     record {
-      spelled =
-          bytes_of_three c.args.n c.letter_of-first.result c.letter_of-second.result c.letter_of-third.result
-          (c.args.n / 54 - 1) ((c.args.n / 54 - 1) / 64 - 1) (omega arith) (omega arith) (omega arith)
-          c.letter_of-first.ensures c.letter_of-second.ensures c.letter_of-third.ensures;
+      spelled = spelling_ends c.args.n c.loop-left.bytes c.loop-left.len c.loop-left.left c.loop-left.invariant c.loop-left-test.false;
       written = written_once;
       apart = short_apart;
       edges = short_edges;

@@ -1,35 +1,15 @@
-use Rattle.std.proofs.Common.{ap, ◌∙◌, arith}
-use Rattle.std.proofs.lemmas.List.{take_all}
-use Rattle.table.specs.Calls.{grown}
+use Rattle.std.proofs.Common.{rules, tests, not, is_some, ◌∙◌}
+use Rattle.std.proofs.lemmas.Iterator.{YieldsList-from_slice}
+use Rattle.std.proofs.lemmas.Iterator.Consumers.{count_from_yields_List, YieldsList-from_filter}
+use Rattle.std.proofs.lemmas.List.Sums.{length-filter}
+use Rattle.table.specs.declared.table.Entry.{Entry}
+use Rattle.table.specs.Maps.{before, lookup}
 use Rattle.table.specs.Rows.{rows}
-use Rattle.tally.specs.Steps.{new_keys}
-use Rattle.tally.proofs.Joining.{grown_none, grown_some}
-use Rattle.tally.proofs.Together.{new_keys_more}
 use Rattle.tally.proofs.merging.new_keys.Goals as goal
-use Rattle.tally.proofs.merging.new_keys.Goals.{else-is_none, then-is_none}
-
-pub loop-row-preserved : goal.loop-row-preserved
-loop-row-preserved g c =
-    elim c.if-is_none.branch [
-      | then-is_none w ↦ (
-        omega (arith, w.count-is),
-        λ s. w.count-is
-            ∙ (grown_none c.find.result c.loop-row.count w.if-is_none.ensures
-            ∙ (ap (λ o. grown o c.loop-row.count) (c.find.ensures s)
-            ∙ new_keys_more g.K.Key.less (rows c.args.table.now) c.args.other.now c.loop-row.row-index c.loop-row.count c.row-item.result
-            c.row-item.is (omega arith) (c.loop-row.invariant.1 s))),
-      )
-      | else-is_none w ↦ (
-        omega (arith, w.count-is),
-        λ s. w.count-is
-            ∙ (grown_some c.find.result c.loop-row.count w.if-is_none.ensures
-            ∙ (ap (λ o. grown o c.loop-row.count) (c.find.ensures s)
-            ∙ new_keys_more g.K.Key.less (rows c.args.table.now) c.args.other.now c.loop-row.row-index c.loop-row.count c.row-item.result
-            c.row-item.is (omega arith) (c.loop-row.invariant.1 s))),
-      )
-    ]
 
 pub returns : goal.returns
 returns g c s =
-    c.loop-row.invariant.1 s
-    ∙ ap (λ es. new_keys g.K.Key.less (rows c.args.table.now) es) (take_all c.loop-row.row-index c.args.other.now (omega arith))
+    let new = λ (e : Entry g.row.K.Denot g.row.V.Denot). not (is_some (lookup (before g.K.Ord.cmp) e.key (rows c.args.table.now))) in
+    count_from_yields_List c.filter.result c.count.result c.count.ensures.ran
+    (YieldsList-from_filter _ new (YieldsList-from_slice c.args.other.now cc) c.filter.ensures.closure (λ x b q k. search (rules, tests)))
+    ∙ length-filter new c.args.other.now

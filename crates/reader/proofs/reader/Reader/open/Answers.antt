@@ -1,13 +1,11 @@
-use Rattle.std.proofs.Common.{arith}
+use Rattle.std.proofs.Common.{◌≡◌, rules, arith}
+use Rattle.grammar.specs.Scan.{restacked, innermost, with_child}
+use Rattle.reader.specs.View.{view}
 use Rattle.reader.proofs.Moves.{open_after}
 use Rattle.reader.proofs.reader.Reader.open.Goals as goal
 
-pub bounds-self-self : goal.bounds-self-self
-bounds-self-self c = omega (arith, c.add_child.ensures.depth)
-
-pub invariant_of-self : goal.invariant_of-self
-invariant_of-self c = record { few = omega (arith, c.add_child.ensures.depth) }
-
 pub returns : goal.returns
 returns c =
-    open_after c.args.self.now c.add_child.new.self c.add_child.ensures.depth c.add_child.ensures.after c.if-self-ge-LEVEL_LIMIT.false (omega (arith, c.add_child.ensures.depth))
+    let r = c.args.self.now in
+    let e : view c.change.new.self ≡ restacked (innermost with_child (view r).stack) (view r) = c.change.ensures.after with_child (record { at = λ e row k. search rules }) in
+    open_after r c.change.new.self c.change.ensures.depth e c.if-self-ge-LEVEL_LIMIT.false (omega (arith, c.change.ensures.depth))
