@@ -1,8 +1,10 @@
 // A text is gone through byte by byte.
-ghost use Rattle.std.specs.Prelude.{◌≡◌, ℕ, List, ◌∷◌, IfOk, OnOk};
-ghost use Rattle.cases.specs.Cases.{expansion};
+ghost use Rattle.std.specs.Prelude.{◌≡◌, ℕ, List, ◌∷◌, ◌++◌, IfOk, OnOk};
+ghost use Rattle.std.specs.List.{repeat};
+ghost use Rattle.cases.specs.Cases.{expansion, expansion_in};
+ghost use Rattle.cases.specs.Expander.{bits_of};
 
-use crate::digits::{digit, with_digit};
+use crate::digits::{Width, digit};
 use std::alloc::{AllocError, Global};
 
 // Where in a text the next byte stands: outside, after `~`, after its first digit, after `{` and a part of the
@@ -12,16 +14,30 @@ enum Mode {
     Outside,
     Tilde,
     Digit(u8),
-    Brace(u32),
-    Colon(u32),
+    Brace(u64),
+    Colon(u64),
 }
 
 // What a text stands for so far, and the part of a repeated text that was met.
 #[derive(Drop)]
 struct Expander {
+    width: Width,
     mode: Mode,
     bytes: Vec<u8>,
     repeated: Vec<u8>,
+}
+
+// Adds a text so often, and takes no memory beside that of the bytes. An empty text adds nothing, however often.
+fn add_repeated(bytes: &mut Vec<u8>, text: &[u8], times: u64) -> Result<(), AllocError>
+    ensures { OnOk result (bytes.new.items ≡ bytes.old.items ++ repeat times text.now) }
+{
+    if text.is_empty() {
+        return Ok(());
+    }
+    for _ in 0..times {
+        bytes.extend_from_slice(text)?;
+    }
+    Ok(())
 }
 
 impl Expander {
@@ -41,7 +57,7 @@ impl Expander {
     }
 
     // A byte of a text that is to stand so often, which `}` ends.
-    fn take_repeated(&mut self, times: u32, b: u8) -> Result<(), AllocError>
+    fn take_repeated(&mut self, times: u64, b: u8) -> Result<(), AllocError>
         requires { self.old.mode ≡ Mode.Colon times }
         ensures { OnOk result ((s : List ℕ) → complete self.new s ≡ complete self.old (b ∷ s)) }
     {
@@ -49,9 +65,7 @@ impl Expander {
             self.repeated.push(b)?;
             return Ok(());
         }
-        let alloc = *self.bytes.allocator();
-        let all = self.repeated.as_slice().repeat(alloc, times as usize)?;
-        self.bytes.extend_from_slice(all.as_slice())?;
+        add_repeated(&mut self.bytes, self.repeated.as_slice(), times)?;
         self.mode = Mode::Outside;
         Ok(())
     }
@@ -71,18 +85,19 @@ impl Expander {
                 self.repeated.clear();
                 self.mode = Mode::Colon(times);
             }
-            Mode::Brace(times) => self.mode = Mode::Brace(with_digit(times, b)),
+            Mode::Brace(times) => self.mode = Mode::Brace(self.width.with_digit(times, b)),
             Mode::Colon(times) => self.take_repeated(times, b)?,
         }
         Ok(())
     }
 }
 
-// What a text stands for.
-pub fn expanded(alloc: Global, text: &[u8]) -> Result<Vec<u8>, AllocError>
-    ensures { IfOk result (λ bytes. bytes.items ≡ expansion text.now) }
+// What a text stands for, where the number of a repetition counts in so many bits.
+fn expanded_in(alloc: Global, width: Width, text: &[u8]) -> Result<Vec<u8>, AllocError>
+    ensures { IfOk result (λ bytes. bytes.items ≡ expansion_in (bits_of width) text.now) }
 {
     let mut expander = Expander {
+        width,
         mode: Mode::Outside,
         bytes: Vec::new(alloc),
         repeated: Vec::new(alloc),
@@ -91,6 +106,20 @@ pub fn expanded(alloc: Global, text: &[u8]) -> Result<Vec<u8>, AllocError>
         expander.take(*b)?;
     }
     Ok(expander.bytes)
+}
+
+// What a text stands for, where the number of a repetition counts in 32 bits.
+pub fn expanded(alloc: Global, text: &[u8]) -> Result<Vec<u8>, AllocError>
+    ensures { IfOk result (λ bytes. bytes.items ≡ expansion text.now) }
+{
+    expanded_in(alloc, Width::Bits32, text)
+}
+
+// What a text stands for, where the number of a repetition counts in 64 bits.
+pub fn expanded_in_64_bits(alloc: Global, text: &[u8]) -> Result<Vec<u8>, AllocError>
+    ensures { IfOk result (λ bytes. bytes.items ≡ expansion_in 64 text.now) }
+{
+    expanded_in(alloc, Width::Bits64, text)
 }
 
 #[cfg(test)]
@@ -102,6 +131,13 @@ mod tests {
     fn stands_for_its_bytes(rt: HostRuntime) -> Result<(), Fail> {
         let bytes = expanded(rt.alloc(), b"a~7fb{3:xy}{0:z}~0")?;
         assert_eq!(rt; bytes.as_slice(), b"a\x7fbxyxyxy".as_slice());
+        Ok(())
+    }
+
+    #[test]
+    fn counts_in_64_bits(rt: HostRuntime) -> Result<(), Fail> {
+        let bytes = expanded_in_64_bits(rt.alloc(), b"{18446744073709551618:xy}{4294967296:}z")?;
+        assert_eq!(rt; bytes.as_slice(), b"xyxyz".as_slice());
         Ok(())
     }
 }

@@ -7,4 +7,4 @@ mod digits;
 mod expander;
 
 pub use digits::number;
-pub use expander::expanded;
+pub use expander::{expanded, expanded_in_64_bits};

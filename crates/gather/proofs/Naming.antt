@@ -9,8 +9,8 @@ use Rattle.options.specs.Giving.{fault_at, unless}
 use Rattle.pages.specs.declared.refusal.Refusal.{Refusal}
 use Rattle.pages.specs.declared.refusal.Refusal.TheVariants.{Foreign, Long}
 use Rattle.gather.specs.Faults.{Wrong, not_ascii, too_long}
-use Rattle.std.specs.Cmp.Lexicographic.{on_texts}
-use Rattle.table.proofs.Places.{Order, order_of}
+use Rattle.names.specs.Laws.{less_before_others, less_irreflexive, less_transitive}
+use Rattle.table.proofs.Places.{Order}
 
 -- what is wrong with a name at a node is told so
 pub checked_wrong : (node : ℕ) (text : List ℕ) (refusal : Refusal) → Err refusal ≡ unless (fault_at node text) (name_of text) → Wrong node text refusal
@@ -42,4 +42,9 @@ checked_right node text name e = record {
 
 -- the order of names has the laws that a table asks for
 pub names_order : Order before
-names_order = order_of (on_texts bytes_of)
+names_order =
+    record {
+      irreflexive = λ a. less_irreflexive (bytes_of a);
+      transitive = λ a b c. less_transitive (bytes_of a) (bytes_of b) (bytes_of c);
+      comparable = λ a b c. less_before_others (bytes_of a) (bytes_of b) (bytes_of c);
+    }

@@ -22,8 +22,9 @@ pub struct Name {
     pub(crate) len: u8,
 }
 
-// The name with no bytes. Names are made from its zeros.
-const NAMELESS: Name = Name {
+// The name with no bytes: what a cleared entry of a table has for its key. For constants: a constant's value may not
+// call `default`. Names are made from its zeros.
+pub const NAMELESS: Name = Name {
     bytes: [0; NAME_LIMIT],
     len: 0,
 };

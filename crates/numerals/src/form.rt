@@ -40,12 +40,14 @@ fn form_of(digits: usize, far: bool) -> Form
     }
 }
 
-// Digits alone.
+// Digits alone. The zeros at their end are counted only where the answer needs them: there may be any number.
 fn whole_form(digits: Digits) -> Option<Form>
     ensures { result ≡ whole_form digits.entry.bytes.now }
 {
-    let is_whole = digits.begins_well() && digits.len() <= LAST_PLACE;
-    is_whole.then_some(form_of(digits.significant(), false))
+    if !digits.begins_well() || digits.len() > LAST_PLACE {
+        return None;
+    }
+    Some(form_of(digits.significant(), false))
 }
 
 // Digits on both sides of a point. A `0` before it may be followed by a few more after it.

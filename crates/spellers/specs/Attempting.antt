@@ -13,7 +13,7 @@ use Rattle.names.specs.Identifiers.{identifier}
 use Rattle.spellers.specs.Attempts.{attempts}
 use Rattle.spellers.specs.Lawful.{Lawful}
 
-past_from_nth : {X : Type 0} (xs : List X) (n : ℕ) → slice_get xs n ≡ None → length xs ≤ n
+pub past_from_nth : {X : Type 0} (xs : List X) (n : ℕ) → slice_get xs n ≡ None → length xs ≤ n
 past_from_nth [] n e = omega arith
 past_from_nth (x ∷ xs) zero e = absurd (cc)
 past_from_nth (x ∷ xs) (suc n) e = let ih = past_from_nth xs n e in omega arith

@@ -48,8 +48,8 @@ fn letter_of(digit: u16) -> u8
 }
 
 // The short spelling of a number: a first digit in base 54, and then, while something is left, digits in base 64, with 1
-// taken from what is left before each. The digits are counted by hand, since the form of what is answered is fixed: three
-// bytes and a count.
+// taken from what is left before each. The turns are bounded, and not only by what is left, so that they are laid out one after
+// the other.
 pub fn base54(n: u16) -> ShortSpelling
     ensures spelled { result ≡ three_bytes (short n) }
     ensures written { WrittenOnce }
@@ -57,15 +57,16 @@ pub fn base54(n: u16) -> ShortSpelling
     ensures edges { ShortEdges }
 {
     let mut bytes = [letter_of(n % FIRST_BASE), 0, 0];
-    let mut len = 1;
     let mut left = n / FIRST_BASE;
-    while left > 0 {
+    for len in 1..3u8 {
+        if left == 0 {
+            return ShortSpelling { bytes, len };
+        }
         left -= 1;
         bytes[usize::from(len)] = letter_of(left % LATER_BASE);
         left /= LATER_BASE;
-        len += 1;
     }
-    ShortSpelling { bytes, len }
+    ShortSpelling { bytes, len: 3 }
 }
 
 // The speller of short names.

@@ -14,22 +14,20 @@ mod mute;
 mod spelling;
 
 use cases::{expanded, number};
-use matchers::{Pattern, WordList};
-use matching::{Question, only_holds, without_holds};
+use matchers::Pattern;
+use matching::{Question, only_holds, without_holds, words_hold};
 use mute::introduce_all;
 use spelling::{debug_holds, short_holds};
 use std::alloc::{AllocError, Global};
 use std::io::{BufRead, BufReader};
 
 // Whether what a line of this kind says is so; a kind that is not there, or has other fields, says nothing.
-fn fields_hold(kind: &str, fields: &[&[u8]]) -> bool {
+fn fields_hold(kind: &str, fields: &[Vec<u8>]) -> bool {
     match (kind, fields) {
         ("match", [answer, pattern, name]) => {
             Question { name, answer }.holds(&Pattern { bytes: pattern })
         }
-        ("words", [answer, name, words @ ..]) if words.len() <= 3 => {
-            Question { name, answer }.holds(&WordList { words })
-        }
+        ("words", [answer, name, words @ ..]) => words_hold(Question { name, answer }, words),
         ("without", [answer, take, leave, name]) => {
             without_holds(Question { name, answer }, take, leave)
         }
@@ -47,14 +45,13 @@ fn cut(heap: Global, line: &str) -> Result<Vec<Vec<u8>>, AllocError> {
         .try_collect(heap)
 }
 
-// Whether what a line says is so.
+// Whether what a line says is so. All of its fields are made, that of the kind too, whatever the kind is.
 fn holds(heap: Global, line: &str) -> Result<bool, AllocError> {
-    let Some((kind, rest)) = line.split_once('|') else {
-        return Ok(false);
-    };
-    let fields = cut(heap, rest)?;
-    let fields: Vec<&[u8]> = fields.iter().map(|field| field.as_slice()).collect(heap)?;
-    Ok(fields_hold(kind, fields.as_slice()))
+    let fields = cut(heap, line)?;
+    Ok(match (line.split_once('|'), fields.as_slice()) {
+        (Some((kind, _)), [_, fields @ ..]) => fields_hold(kind, fields),
+        _ => false,
+    })
 }
 
 // `vectors` goes through its lines alike, and tells another thing of one that does not hold: a function for both would

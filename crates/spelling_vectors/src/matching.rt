@@ -1,5 +1,5 @@
 // What the matchers answer.
-use matchers::{Matcher, Pattern, Without};
+use matchers::{Matcher, Pattern, Without, WordList};
 
 // What a matcher is to answer of a name: `yes` or `no`.
 #[derive(Clone, Copy)]
@@ -17,6 +17,23 @@ impl Question<'_> {
             b"no"
         };
         found == self.answer
+    }
+}
+
+// One of the words; an empty one where there are no more.
+fn at(words: &[Vec<u8>], i: usize) -> &[u8] {
+    match words.get(i) {
+        Some(word) => word.as_slice(),
+        None => b"",
+    }
+}
+
+// words|ANSWER|NAME, with up to three words behind it
+pub fn words_hold(question: Question, words: &[Vec<u8>]) -> bool {
+    let room: &[&[u8]] = &[at(words, 0), at(words, 1), at(words, 2)];
+    match room.get(..words.len()) {
+        Some(words) => question.holds(&WordList { words }),
+        None => false,
     }
 }
 

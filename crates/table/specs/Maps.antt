@@ -1,12 +1,6 @@
 -- Rows as an ordered map, over the strict order of their keys.
 use Rattle.std.specs.Prelude.{◌≡◌, ℕ, ◌<◌, Bool, true, cond, not, ◌&&◌, List, [], ◌∷◌, length, Some, None, Option, slice_index_or}
-use Rattle.std.specs.declared.cmp.Ordering.{Ordering}
-use Rattle.std.specs.Ordering.{is_lt}
 use Rattle.table.specs.declared.table.Entry.{Entry}
-
--- The strict order of a comparison: one key is before another where it compares as less.
-abbrev pub before : {K : Type 0} → (K → K → Ordering) → K → K → Bool
-before cmp a b = is_lt (cmp a b)
 
 -- Two keys are equivalent where neither is before the other.
 abbrev pub equivalent : {K : Type 0} → (K → K → Bool) → K → K → Bool

@@ -2,8 +2,10 @@
 #![tactic(auto)]
 
 mod finding;
+mod key;
 mod shift;
 mod table;
 
 pub use crate::finding::look_up;
+pub use crate::key::Key;
 pub use crate::table::{Entry, Full, Table};

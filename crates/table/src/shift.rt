@@ -15,6 +15,8 @@ pub(crate) fn put_in<K: Copy, V: Copy>(
     requires { (at ≤ len) × (len < length entries.old) }
     ensures { PutIn entries.old len at entry entries.new }
 {
-    entries.copy_within(at..len, at + 1);
-    entries[at] = entry;
+    // It comes behind the others, and all from its place on turn by one: one move of the memory, where `copy_within`
+    // takes each entry by itself.
+    entries[len] = entry;
+    entries[at..=len].rotate_right(1);
 }

@@ -2,10 +2,11 @@
 ghost use Rattle.std.specs.Prelude.{◌≡◌, length, ◌==◌};
 ghost use Rattle.std.specs.List.{slice_get};
 ghost use Rattle.table.specs.Calls.{Answered, Grows};
-ghost use Rattle.table.specs.Maps.{before, lookup};
+ghost use Rattle.table.specs.Maps.{lookup};
 ghost use Rattle.table.specs.Rows.{cleared, memory, rows, SameMemory, Sound};
 
 use crate::finding::{look_up, seek};
+use crate::key::Key;
 use crate::shift::put_in;
 use std::mem::replace;
 
@@ -29,12 +30,12 @@ pub struct Table<'a, K, V> {
 #[derive(Clone, Copy, PartialEq, Eq, Debug)]
 pub struct Full;
 
-impl<'a, K: Ord + Copy, V: Copy> Table<'a, K, V> {
+impl<'a, K: Key, V: Copy> Table<'a, K, V> {
     // A table with no rows in the memory that is lent. The memory stays as it is.
     pub fn new(entries: &'a mut [Entry<K, V>]) -> Table<'a, K, V>
         ensures empty { result.len ≡ 0 }
         ensures lent { result.entries ≡ entries.entry }
-        ensures sound { Sound (before K.cmp) result }
+        ensures sound { Sound K.Key.less result }
     {
         Table { entries, len: 0 }
     }
@@ -69,7 +70,7 @@ impl<'a, K: Ord + Copy, V: Copy> Table<'a, K, V> {
 
     // The value of a key, where the table has an equivalent one.
     pub fn find(&self, key: &K) -> Option<V>
-        ensures { Sound (before K.cmp) self.now → result ≡ lookup (before K.cmp) key.now (rows self.now) }
+        ensures { Sound K.Key.less self.now → result ≡ lookup K.Key.less key.now (rows self.now) }
     {
         look_up(self.rows(), key)
     }
@@ -77,7 +78,7 @@ impl<'a, K: Ord + Copy, V: Copy> Table<'a, K, V> {
     // Takes all rows out. The memory stays as it is.
     pub fn clear(&mut self)
         ensures empty { self.new ≡ cleared self.old }
-        ensures sound { Sound (before K.cmp) self.new }
+        ensures sound { Sound K.Key.less self.new }
     {
         self.len = 0;
     }
@@ -87,7 +88,7 @@ impl<'a, K: Ord + Copy, V: Copy> Table<'a, K, V> {
     pub fn insert_within(&mut self, limit: usize, key: K, value: V) -> Result<Option<V>, Full>
         ensures lent { SameMemory self.old self.new }
         ensures grows { Grows self.old self.new result }
-        ensures answered { Sound (before K.cmp) self.old → Answered (before K.cmp) limit key value self.old self.new result }
+        ensures answered { Sound K.Key.less self.old → Answered K.Key.less limit key value self.old self.new result }
     {
         match seek(self.rows(), &key) {
             Ok(at) => {
@@ -110,7 +111,7 @@ impl<'a, K: Ord + Copy, V: Copy> Table<'a, K, V> {
     pub fn insert(&mut self, key: K, value: V) -> Result<Option<V>, Full>
         ensures lent { SameMemory self.old self.new }
         ensures grows { Grows self.old self.new result }
-        ensures answered { Sound (before K.cmp) self.old → Answered (before K.cmp) (length (memory self.old)) key value self.old self.new result }
+        ensures answered { Sound K.Key.less self.old → Answered K.Key.less (length (memory self.old)) key value self.old self.new result }
     {
         let limit = self.entries.len();
         self.insert_within(limit, key, value)

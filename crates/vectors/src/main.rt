@@ -13,7 +13,7 @@ mod replay;
 mod shapes;
 mod words;
 
-use cases::expanded;
+use cases::expanded_in_64_bits;
 use given::option_answers;
 use reader::Size;
 use replay::{Outcome, replayed};
@@ -57,7 +57,7 @@ fn text_holds<F: Fn(&str, &[u8]) -> bool + Drop>(
     let Some((answer, text)) = line.split_once('|') else {
         return Ok(false);
     };
-    let text = expanded(heap, text.as_bytes())?;
+    let text = expanded_in_64_bits(heap, text.as_bytes())?;
     Ok(is(answer, &text))
 }
 
@@ -67,7 +67,7 @@ fn page_holds(rt: &(impl Print + AllocGlobal), line: &str) -> anyhow::Result<boo
         return Ok(false);
     };
     let heap = rt.alloc();
-    let listing = expanded(heap, case.listing.as_bytes())?;
+    let listing = expanded_in_64_bits(heap, case.listing.as_bytes())?;
     match replayed(heap, &listing, case.room)? {
         Outcome::Refused(refusal) => {
             let told = format!(in heap; "{refusal}")?;

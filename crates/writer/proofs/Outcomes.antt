@@ -196,13 +196,11 @@ reads_again {ns} (is_listed u d i g) t e x =
     back ns t (d ∙ ap nodes same) (subst Lawful same i) x
 
 -- what is put into a measured room is the listing
-pub listed_whole : {ns : List Node} {rows text len : ℕ} {out : List ℕ} (m : Measured ns rows text (length out) (Ok len)) (after : List ℕ) (l : Result ℕ Full) (r : Result ℕ Refusal)
-    → Lists (tree (sized m).page.label (sized m).page.forest) out len after l
-    → MatchResult l (λ x. r ≡ Ok x) (λ _. r ≡ Err Overfull) → Listed ns rows text out after r
-listed_whole {ns} {rows} {text} {len} {out} m after (Err _) r l e = absurd (omega (arith, (sized m).is_len))
-listed_whole {ns} {rows} {text} {len} {out} m after (Ok next) r l e =
+pub listed_whole : {ns : List Node} {rows text len : ℕ} {out : List ℕ} (m : Measured ns rows text (length out) (Ok len)) (after : List ℕ) (l : Result ℕ Full)
+    → Lists (tree (sized m).page.label (sized m).page.forest) out len after l → Listed ns rows text out after (Ok len)
+listed_whole {ns} {rows} {text} {len} {out} m after (Err _) l = absurd (omega (arith, (sized m).is_len))
+listed_whole {ns} {rows} {text} {len} {out} m after (Ok next) l =
     let t : Tree = tree (sized m).page.label (sized m).page.forest in
-    let same : next ≡ len = l.all ∙ sym (sized m).is_len in
     let fits : 0 + length (written t) ≤ length out = omega (arith, (sized m).is_len, (sized m).has_room) in
     let lists : (u : Tree) → m.outcome ≡ listed u → Listing (written u) u =
     λ u e. subst (λ (v : Tree). Listing (written v) v) (same_listed t u (sym (sized m).outcome_is ∙ e)) (written_lists t (sized m).page.is_lawful l.small) in
@@ -210,7 +208,7 @@ listed_whole {ns} {rows} {text} {len} {out} m after (Ok next) r l e =
       outcome = m.outcome;
       comes_to = m.comes_to;
       only = m.only;
-      answered = e ∙ ((λ k. Ok (same k)) ∙ m.answered);
+      answered = m.answered;
       left = l.put
           ∙ sets-eq (written t) out 0 fits
           ∙ ap (λ (n : ℕ). written t ++ drop n out) (zero-add (length (written t)))

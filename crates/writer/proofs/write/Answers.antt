@@ -1,5 +1,4 @@
 -- The listing was measured, so that it is put whole.
-use Rattle.std.proofs.Common.{rules}
 use Rattle.writer.proofs.Outcomes.{page_stands, sized, listed_whole}
 use Rattle.writer.proofs.write.Goals as goal
 
@@ -7,6 +6,4 @@ pub put_listing-requires : goal.put_listing-requires
 put_listing-requires c = page_stands (sized c.in_ok-len.ensures).page
 
 pub returns : goal.returns
-returns c =
-    listed_whole c.in_ok-len.ensures _ c.put_listing.result c.map_err.result (c.put_listing.ensures (page_stands (sized c.in_ok-len.ensures).page))
-    (search rules)
+returns c = listed_whole c.in_ok-len.ensures _ c.put_listing.result (c.put_listing.ensures (page_stands (sized c.in_ok-len.ensures).page))

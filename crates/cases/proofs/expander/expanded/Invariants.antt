@@ -1,8 +1,0 @@
--- What was taken, completed by what is left, is what the whole text stands for.
-use Rattle.std.proofs.Common.{◌≡◌, drop}
-use Rattle.cases.specs.Cases.{expansion}
-use Rattle.cases.specs.Expander.{complete}
-use Rattle.cases.proofs.expander.expanded.Given as goal
-
-abbrev pub invariant-loop-b : goal.invariant-loop-b
-invariant-loop-b l = complete l.expander (drop l.b-index l.text) ≡ expansion l.text
