@@ -4,7 +4,6 @@ ghost use Rattle.grammar.specs.Scan.{run, at_start, ended, broke};
 ghost use Rattle.reader.specs.View.{view, held, IsSame};
 
 use crate::memory::Memory;
-use crate::open::{Effect, Unread};
 use crate::reader::Reader;
 
 // Reads every byte, or up to the place of one that is unread.
@@ -16,12 +15,8 @@ pub(crate) fn scan(listing: &[u8], memory: &mut Memory) -> Result<Reader, usize>
 {
     let mut reader = Reader::new();
     for (place, b) in listing.iter().enumerate() {
-        // By a match, since most bytes add nothing: a result passed on by `?` is built anew for each byte.
-        match reader.take(*b) {
-            Ok(Effect::Quiet) => {}
-            Ok(effect) => memory.add(effect),
-            Err(Unread) => return Err(place),
-        }
+        let effect = reader.take(*b).map_err(|_| place)?;
+        memory.add(effect);
     }
     Ok(reader)
 }

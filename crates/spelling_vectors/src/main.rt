@@ -38,11 +38,13 @@ fn fields_hold(kind: &str, fields: &[Vec<u8>]) -> bool {
     }
 }
 
-// The fields of a line, which `|` separates.
+// The fields of a line, which `|` separates. Pushed one by one: collected by `try_collect`, many took half again as long.
 fn cut(heap: Global, line: &str) -> Result<Vec<Vec<u8>>, AllocError> {
-    line.split('|')
-        .map(|field| expanded(heap, field.as_bytes()))
-        .try_collect(heap)
+    let mut fields = Vec::new(heap);
+    for field in line.split('|') {
+        fields.push(expanded(heap, field.as_bytes())?)?;
+    }
+    Ok(fields)
 }
 
 // Whether what a line says is so. All of its fields are made, that of the kind too, whatever the kind is.
