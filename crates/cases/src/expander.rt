@@ -134,8 +134,9 @@ mod tests {
         Ok(())
     }
 
+    // That 64 bits count and not 32 shows only where a text would stand over 2^32 times: an edit shows it, and no test.
     #[test]
-    fn counts_in_64_bits(rt: HostRuntime) -> Result<(), Fail> {
+    fn stands_for_its_bytes_in_64_bits(rt: HostRuntime) -> Result<(), Fail> {
         let bytes = expanded_in_64_bits(rt.alloc(), b"{18446744073709551618:xy}{4294967296:}z")?;
         assert_eq!(rt; bytes.as_slice(), b"xyxyz".as_slice());
         Ok(())
